@@ -23,7 +23,7 @@ use Rattle.command_parser.specs.Operands.{slots_of_alt_user, slots_of_alt_sd, sl
 use Rattle.command_fields.specs.LawfulFields.{AreLawfulFields}
 use Rattle.generic_names.specs.Spelled.{is_empty}
 use Rattle.command_fields.specs.Issuers.{group_or_current}
-use Rattle.command_authority.specs.Requirements.{over, over_where, over_members, leaving, giving, requirements, add_user_requirements, alt_user_requirements, del_user_requirements, add_group_requirements, alt_group_requirements, del_group_requirements, connect_requirements, remove_requirements, add_sd_requirements, alt_sd_requirements, del_sd_requirements, r_define_requirements, r_alter_requirements, r_delete_requirements, permit_requirements, refreshing, refreshed_classes, setting, set_ropts_requirements}
+use Rattle.command_authority.specs.Requirements.{over, over_where, over_members, leaving, giving, requirements, add_user_requirements, alt_user_requirements, del_user_requirements, add_group_requirements, alt_group_requirements, del_group_requirements, connect_requirements, remove_requirements, add_sd_requirements, alt_sd_requirements, del_sd_requirements, r_define_requirements, define_class_requirements, alter_class_requirements, r_alter_requirements, r_delete_requirements, permit_requirements, refreshing, refreshed_classes, setting, set_ropts_requirements}
 use Rattle.command_authority.specs.Authority.{holds, is_met, first_unmet, need}
 
 -- The needs begin with SPECIAL, or are those of what is the auditor's.
@@ -129,7 +129,7 @@ usual-set_ropts c true = usual-refreshing (refreshed_classes c)
 usual-set_ropts c false = refl
 
 usual : (rows : Rows) (issuer : Issuer) (command : CommandFields) → list_all is_usual (requirements rows issuer command) ≡ true
-unfolding add_user_requirements alt_user_requirements del_user_requirements add_group_requirements alt_group_requirements del_group_requirements connect_requirements remove_requirements add_sd_requirements alt_sd_requirements del_sd_requirements r_define_requirements r_alter_requirements r_delete_requirements permit_requirements set_ropts_requirements
+unfolding add_user_requirements alt_user_requirements del_user_requirements add_group_requirements alt_group_requirements del_group_requirements connect_requirements remove_requirements add_sd_requirements alt_sd_requirements del_sd_requirements r_define_requirements define_class_requirements r_alter_requirements alter_class_requirements r_delete_requirements permit_requirements set_ropts_requirements
 usual rows issuer (fields.AddUser c) = refl
 usual rows issuer (fields.AltUser c) = refl
 usual rows issuer (fields.DelUser c) = refl
@@ -143,6 +143,8 @@ usual rows issuer (fields.AltSd c) = refl
 usual rows issuer (fields.DelSd c) = refl
 usual rows issuer (fields.RDefine c) = refl
 usual rows issuer (fields.RAlter c) = refl
+usual rows issuer (fields.DefineClass c) = refl
+usual rows issuer (fields.AlterClass c) = refl
 usual rows issuer (fields.RDelete c) = refl
 usual rows issuer (fields.Permit c) = refl
 usual rows issuer (fields.SetRopts c) = usual-set_ropts c c.refresh
@@ -169,7 +171,7 @@ set_ropts-stands c true h = one-refreshed c.raclist c.global c.generic h
 set_ropts-stands c false h = of_two (not (is_empty c.logoptions)) (not (some_stands (slots_of_set_ropts (record c { logoptions = [] }))))
 
 stands : (rows : Rows) (issuer : Issuer) (command : CommandFields) → AreLawfulFields command → list_any (λ (r : Requirement). r.stands) (requirements rows issuer command) ≡ true
-unfolding add_user_requirements alt_user_requirements del_user_requirements add_group_requirements alt_group_requirements del_group_requirements connect_requirements remove_requirements add_sd_requirements alt_sd_requirements del_sd_requirements r_define_requirements r_alter_requirements r_delete_requirements permit_requirements set_ropts_requirements
+unfolding add_user_requirements alt_user_requirements del_user_requirements add_group_requirements alt_group_requirements del_group_requirements connect_requirements remove_requirements add_sd_requirements alt_sd_requirements del_sd_requirements r_define_requirements define_class_requirements r_alter_requirements alter_class_requirements r_delete_requirements permit_requirements set_ropts_requirements
 stands rows issuer (fields.AddUser c) h = refl
 stands rows issuer (fields.AltUser c) h = of_three (alters_uaudit c) (not (some_stands (slots_of_alt_user (record c { uaudit = false; nouaudit = false })))) (alters_attribute c)
 stands rows issuer (fields.DelUser c) h = refl
@@ -183,6 +185,8 @@ stands rows issuer (fields.AltSd c) h = of_two (is_some c.globalaudit) (not (som
 stands rows issuer (fields.DelSd c) h = refl
 stands rows issuer (fields.RDefine c) h = refl
 stands rows issuer (fields.RAlter c) h = of_two (is_some c.globalaudit) (not (some_stands (slots_of_r_alter (record c { globalaudit = None }))))
+stands rows issuer (fields.DefineClass c) h = refl
+stands rows issuer (fields.AlterClass c) h = refl
 stands rows issuer (fields.RDelete c) h = refl
 stands rows issuer (fields.Permit c) h = refl
 stands rows issuer (fields.SetRopts c) h = set_ropts-stands c c.refresh h.refresh

@@ -22,6 +22,8 @@ use Rattle.command_fields.specs.declared.profile_fields.DelSd.{DelSd}
 use Rattle.command_fields.specs.declared.profile_fields.RDefine.{RDefine}
 use Rattle.command_fields.specs.declared.profile_fields.RAlter.{RAlter}
 use Rattle.command_fields.specs.declared.profile_fields.RDelete.{RDelete}
+use Rattle.command_fields.specs.declared.class_fields.AlterClass.{AlterClass}
+use Rattle.command_fields.specs.Classes.{cdt}
 use Rattle.command_fields.specs.declared.profile_fields.Permit.{Permit}
 use Rattle.command_fields.specs.declared.option_fields.SetRopts.{SetRopts}
 use Rattle.command_fields.specs.declared.fields.CommandFields.{CommandFields}
@@ -121,6 +123,10 @@ add_sd_requirements c = over_new_data_set (first_qualifier c.profile.text) ∷ [
 unfoldable pub r_define_requirements : RDefine → List Requirement
 r_define_requirements c = over targets.Nothing (Special ∷ ClassAuthority c.class ∷ []) ∷ []
 
+-- RDEFINE in class CDT, as in every class
+unfoldable pub define_class_requirements : List Requirement
+define_class_requirements = over targets.Nothing (Special ∷ ClassAuthority cdt ∷ []) ∷ []
+
 -- The other commands on profiles: one's own data count in class DATASET, and an entry with ALTER for a discrete
 -- profile.
 abbrev pub dataset : List ℕ
@@ -144,6 +150,9 @@ del_sd_requirements c = over_profile true dataset c.profile ∷ []
 
 unfoldable pub r_alter_requirements : RAlter → List Requirement
 r_alter_requirements c = over_profile (not (r_alter_audits_alone c)) c.class c.profile ∷ auditing (is_some c.globalaudit) ∷ []
+
+unfoldable pub alter_class_requirements : AlterClass → List Requirement
+alter_class_requirements c = over_profile true cdt c.profile ∷ []
 
 unfoldable pub r_delete_requirements : RDelete → List Requirement
 r_delete_requirements c = over_profile true c.class c.profile ∷ []
@@ -181,6 +190,8 @@ requirements rows issuer (fields.AltSd c) = alt_sd_requirements c
 requirements rows issuer (fields.DelSd c) = del_sd_requirements c
 requirements rows issuer (fields.RDefine c) = r_define_requirements c
 requirements rows issuer (fields.RAlter c) = r_alter_requirements c
+requirements rows issuer (fields.DefineClass c) = define_class_requirements
+requirements rows issuer (fields.AlterClass c) = alter_class_requirements c
 requirements rows issuer (fields.RDelete c) = r_delete_requirements c
 requirements rows issuer (fields.Permit c) = permit_requirements c
 requirements rows issuer (fields.SetRopts c) = set_ropts_requirements c

@@ -11,7 +11,9 @@ use crate::groups::{add_group, alt_group, connect, del_group, remove};
 use crate::held::{has_authority, has_class};
 use crate::needs::{Need, Needs};
 use crate::options::{refreshing, setting};
-use crate::profiles::{add_sd, alt_sd, del_sd, permit, r_alter, r_define, r_delete};
+use crate::profiles::{
+    add_sd, alt_sd, alter_class, define_class, del_sd, permit, r_alter, r_define, r_delete,
+};
 use crate::requirement::{Requirement, Target};
 use crate::targets::{
     groups_are_a_tree, has_alter_entry, has_authority_in, has_group_special, is_own_data, is_owner,
@@ -66,6 +68,8 @@ pub fn authorised<V: View>(
         CommandFields::DelSd(command) => unmet(view, tree, issuer, &del_sd(command)),
         CommandFields::RDefine(command) => unmet(view, tree, issuer, &r_define(command)),
         CommandFields::RAlter(command) => unmet(view, tree, issuer, &r_alter(command)),
+        CommandFields::DefineClass(_) => unmet(view, tree, issuer, &define_class()),
+        CommandFields::AlterClass(command) => unmet(view, tree, issuer, &alter_class(command)),
         CommandFields::RDelete(command) => unmet(view, tree, issuer, &r_delete(command)),
         CommandFields::Permit(command) => unmet(view, tree, issuer, &permit(command)),
         CommandFields::SetRopts(command) => unmet_of_set_ropts(view, tree, issuer, command),

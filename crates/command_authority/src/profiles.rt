@@ -2,13 +2,13 @@
 ghost use Rattle.std.specs.Prelude.{◌≡◌, is_ok, IsTrue};
 ghost use Rattle.access_levels.specs.Spelling.{id_of};
 ghost use Rattle.generic_names.specs.Spelled.{first_qualifier};
-ghost use Rattle.command_authority.specs.Requirements.{dataset, over_new_data_set, profile_needs, over_profile, auditing, add_sd_requirements, alt_sd_requirements, del_sd_requirements, r_define_requirements, r_alter_requirements, r_delete_requirements, permit_requirements};
+ghost use Rattle.command_authority.specs.Requirements.{dataset, over_new_data_set, profile_needs, over_profile, auditing, add_sd_requirements, alt_sd_requirements, del_sd_requirements, r_define_requirements, define_class_requirements, alter_class_requirements, r_alter_requirements, r_delete_requirements, permit_requirements};
 
 use crate::needs::{Need, Needs};
 use crate::operands::{alt_sd_audits_alone, r_alter_audits_alone};
 use crate::requirement::{Requirement, Target, over, over_where};
 use access_levels::Id;
-use command_fields::{AddSd, AltSd, DelSd, Permit, RAlter, RDefine, RDelete};
+use command_fields::{AddSd, AltSd, AlterClass, DelSd, Permit, RAlter, RDefine, RDelete, cdt};
 use generic_names::{Pattern, first_qualifier};
 use racf_profiles::FixedClass;
 
@@ -52,6 +52,23 @@ pub(crate) fn r_define(command: &RDefine) -> [Requirement; 1]
 {
     let needs = Needs::of(&[Need::Special, Need::ClassAuthority(command.class)]);
     [over(Target::Nothing, needs)]
+}
+
+/// What RDEFINE in class CDT requires.
+#[tactic(auto, unfolding(crate::specs::Requirements::define_class_requirements))]
+pub(crate) fn define_class() -> [Requirement; 1]
+    ensures { result ≡ define_class_requirements }
+{
+    let needs = Needs::of(&[Need::Special, Need::ClassAuthority(cdt())]);
+    [over(Target::Nothing, needs)]
+}
+
+/// What RALTER in class CDT requires.
+#[tactic(auto, unfolding(crate::specs::Requirements::alter_class_requirements))]
+pub(crate) fn alter_class(command: &AlterClass) -> [Requirement; 1]
+    ensures { result ≡ alter_class_requirements command.now }
+{
+    [over_profile(true, cdt(), &command.profile)]
 }
 
 /// What ALTSD requires.

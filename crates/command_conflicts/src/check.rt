@@ -2,7 +2,7 @@
 ghost use Rattle.std.specs.Prelude.{◌≡◌};
 ghost use Rattle.std.specs.Result.{result_err};
 ghost use Rattle.command_rules.specs.ProfileEffects.{dataset};
-ghost use Rattle.command_rules.specs.ProfileConflicts.{add_sd_requirements, new_profile_limits, add_sd_conflicts, alt_sd_conflicts, del_sd_conflicts, r_define_requirements, new_resource_limits, r_define_conflicts, r_alter_conflicts, r_delete_conflicts, permit_conflicts};
+ghost use Rattle.command_rules.specs.ProfileConflicts.{add_sd_requirements, new_profile_limits, add_sd_conflicts, alt_sd_conflicts, del_sd_conflicts, r_define_requirements, new_resource_limits, r_define_conflicts, r_alter_conflicts, define_class_conflicts, alter_class_conflicts, r_delete_conflicts, permit_conflicts};
 ghost use Rattle.command_rules.specs.OptionConflicts.{set_ropts_conflicts};
 ghost use Rattle.command_rules.specs.Conflicts.{conflict_of, conflicts, first_met, add_user_conflicts, alt_user_conflicts, del_user_conflicts, add_group_conflicts, alt_group_conflicts, del_group_conflicts, connect_conflicts, remove_conflicts};
 
@@ -16,8 +16,9 @@ mod security;
 mod users;
 
 use command_fields::{
-    AddGroup, AddSd, AddUser, AltGroup, AltSd, AltUser, CommandFields, Connect, DelGroup, DelSd,
-    DelUser, Issuer, Permit, RAlter, RDefine, RDelete, Remove, SetRopts,
+    AddGroup, AddSd, AddUser, AltGroup, AltSd, AltUser, AlterClass, CommandFields, Connect,
+    DefineClass, DelGroup, DelSd, DelUser, Issuer, Permit, RAlter, RDefine, RDelete, Remove,
+    SetRopts, cdt,
 };
 use command_rules::{Conflict, dataset};
 use groups::{
@@ -90,6 +91,8 @@ pub fn check_command(
         CommandFields::DelSd(command) => check_del_sd(tables, command),
         CommandFields::RDefine(command) => check_r_define(tables, issuer, command),
         CommandFields::RAlter(command) => check_r_alter(tables, issuer, command),
+        CommandFields::DefineClass(command) => check_define_class(tables, command),
+        CommandFields::AlterClass(command) => check_alter_class(tables, command),
         CommandFields::RDelete(command) => check_r_delete(tables, command),
         CommandFields::Permit(command) => check_permit(tables, issuer, command),
         CommandFields::SetRopts(command) => check_set_ropts(tables, command),
@@ -330,6 +333,29 @@ fn check_r_alter(tables: &RowTables, issuer: &Issuer, command: &RAlter) -> Resul
         check_label(tables, command.seclabel),
         check_members_fit(tables, issuer, command),
         check_categories_fit(tables, &command.addmem),
+    ]
+}
+
+/// The tests of RDEFINE in class CDT, in their order.
+#[tactic(auto, unfolding(command_rules::specs::ProfileConflicts::define_class_conflicts))]
+fn check_define_class(tables: &RowTables, command: &DefineClass) -> Result<(), Conflict>
+    ensures { result_err result ≡ first_met (define_class_conflicts command.now tables.now.rows) }
+{
+    first_conflict![
+        check_owner(tables, command.owner),
+        check_resource_class(tables, cdt()),
+    ]
+}
+
+/// The tests of RALTER in class CDT, in their order.
+#[tactic(auto, unfolding(command_rules::specs::ProfileConflicts::alter_class_conflicts))]
+fn check_alter_class(tables: &RowTables, command: &AlterClass) -> Result<(), Conflict>
+    ensures { result_err result ≡ first_met (alter_class_conflicts command.now tables.now.rows) }
+{
+    first_conflict![
+        check_owner(tables, command.owner),
+        check_resource_profile(tables, cdt(), &command.profile),
+        check_resource_class(tables, cdt()),
     ]
 }
 

@@ -53,6 +53,8 @@ pub fn edits_of(
         CommandFields::DelSd(command) => one(alloc, Edit::DropProfile(dataset(), command.profile)),
         CommandFields::RDefine(command) => edits_of_r_define(alloc, tables, issuer, command),
         CommandFields::RAlter(command) => edits_of_r_alter(alloc, tables, command),
+        CommandFields::DefineClass(_) => Ok(Vec::new(alloc)),
+        CommandFields::AlterClass(_) => Ok(Vec::new(alloc)),
         CommandFields::RDelete(command) => one(
             alloc,
             Edit::DropProfile(command.class, command.profile),

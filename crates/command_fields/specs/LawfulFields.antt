@@ -26,6 +26,9 @@ use Rattle.command_fields.specs.declared.profile_fields.AltSd.{AltSd}
 use Rattle.command_fields.specs.declared.profile_fields.RDefine.{RDefine}
 use Rattle.command_fields.specs.declared.profile_fields.RAlter.{RAlter}
 use Rattle.command_fields.specs.declared.profile_fields.RDelete.{RDelete}
+use Rattle.command_fields.specs.declared.class_fields.DefineClass.{DefineClass}
+use Rattle.command_fields.specs.declared.class_fields.AlterClass.{AlterClass}
+use Rattle.command_fields.specs.Classes.{cdt, is_longest}
 use Rattle.command_fields.specs.declared.profile_fields.Permit.{Permit}
 use Rattle.command_fields.specs.declared.option_fields.SetRopts.{SetRopts}
 use Rattle.command_fields.specs.declared.log_clauses.LogClause.{LogClause}
@@ -168,6 +171,19 @@ pub record IsLawfulRDefine (a : RDefine) : Type 0 where
   pub seclabel : IfSome a.seclabel IsId
   pub addmem : AreMembersOf a.class a.profile a.addmem
 
+-- RDEFINE in class CDT
+pub record IsLawfulDefineClass (a : DefineClass) : Type 0 where
+  pub profile : IsClassProfile cdt a.profile
+  pub kind : a.profile.kind ≡ General
+  pub owner : IfSome a.owner IsId
+  pub maxlength : IfSome a.maxlength (λ n. is_longest n ≡ true)
+
+-- RALTER in class CDT
+pub record IsLawfulAlterClass (a : AlterClass) : Type 0 where
+  pub profile : IsClassProfile cdt a.profile
+  pub kind : a.profile.kind ≡ General
+  pub owner : IfSome a.owner IsId
+
 -- RALTER
 pub record IsLawfulRAlter (a : RAlter) : Type 0 where
   pub class : IsId a.class
@@ -225,7 +241,9 @@ AreLawfulFields (command.AddSd a) = IsLawfulAddSd a
 AreLawfulFields (command.AltSd a) = IsLawfulAltSd a
 AreLawfulFields (command.DelSd a) = IsDataSetProfile a.profile
 AreLawfulFields (command.RDefine a) = IsLawfulRDefine a
+AreLawfulFields (command.DefineClass a) = IsLawfulDefineClass a
 AreLawfulFields (command.RAlter a) = IsLawfulRAlter a
+AreLawfulFields (command.AlterClass a) = IsLawfulAlterClass a
 AreLawfulFields (command.RDelete a) = IsLawfulRDelete a
 AreLawfulFields (command.Permit a) = IsLawfulPermit a
 AreLawfulFields (command.SetRopts a) = IsLawfulSetRopts a

@@ -1,6 +1,7 @@
 pub mod ProfileNames
 pub mod UserNames
 pub mod AuditRules
+pub mod Classes
 pub mod MemberForms
 pub mod LawfulMembers
 pub mod Resets

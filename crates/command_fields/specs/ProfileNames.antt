@@ -13,6 +13,7 @@ use Rattle.racf_profiles.specs.declared.fixed_classes.NameForm.TheVariants as fo
 use Rattle.racf_profiles.specs.declared.fixed_classes.ClassFacts.{ClassFacts}
 use Rattle.racf_profiles.specs.ClassTable.{facts_of}
 use Rattle.command_words.specs.Bytes.{upper}
+use Rattle.command_fields.specs.Classes.{cdt}
 
 -- The first qualifier of a data set profile has an ID's spelling.
 abbrev pub dataset_profile : List ℕ → Option Spelled
@@ -43,8 +44,9 @@ abbrev pub form_of : Option ClassFacts → NameForm
 form_of None = forms.General
 form_of (Some facts) = facts.names
 
+-- The profiles of CDT have the names of classes.
 unfoldable pub form_in : List ℕ → NameForm
-form_in class = form_of (facts_of class)
+form_in class = if bytes_eq class cdt then forms.Class else form_of (facts_of class)
 
 -- Behind a class's name DATASET has general names too.
 abbrev pub general_form : NameForm → NameForm

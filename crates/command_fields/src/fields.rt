@@ -3,6 +3,7 @@
 //! An operand that takes no value is a `bool`, a list of names is empty where it wasn't given, and every other operand
 //! is an `Option` of its value. An operand and the one that takes it back, as SPECIAL and NOSPECIAL, are two fields.
 
+use crate::class_fields::{AlterClass, DefineClass};
 use crate::lists::Ids;
 use crate::option_fields::SetRopts;
 use crate::profile_fields::{AddSd, AltSd, DelSd, Permit, RAlter, RDefine, RDelete};
@@ -23,7 +24,11 @@ pub enum CommandFields {
     AltSd(AltSd),
     DelSd(DelSd),
     RDefine(RDefine),
+    /// RDEFINE in class CDT.
+    DefineClass(DefineClass),
     RAlter(RAlter),
+    /// RALTER in class CDT.
+    AlterClass(AlterClass),
     RDelete(RDelete),
     Permit(Permit),
     SetRopts(SetRopts),

@@ -90,6 +90,8 @@ completed-fits known verbs.Connect ss h = none-fits known (operands_of verbs.Con
 completed-fits known verbs.Remove ss h = none-fits known (operands_of verbs.Remove) ss h refl
 completed-fits known verbs.RDefine ss h = none-fits known (operands_of verbs.RDefine) ss h refl
 completed-fits known verbs.RAlter ss h = none-fits known (operands_of verbs.RAlter) ss h refl
+completed-fits known verbs.DefineClass ss h = none-fits known (operands_of verbs.DefineClass) ss h refl
+completed-fits known verbs.AlterClass ss h = none-fits known (operands_of verbs.AlterClass) ss h refl
 completed-fits known verbs.RDelete ss h = none-fits known (operands_of verbs.RDelete) ss h refl
 completed-fits known verbs.SetRopts ss h = none-fits known (operands_of verbs.SetRopts) ss h refl
 completed-fits known verbs.AddSd ss h = cleared-fits known (operands_of verbs.AddSd) ss 8 h refl
@@ -170,6 +172,8 @@ settled-slots known verbs.AltSd ss h = record { again = cleared-again (generic_p
 settled-slots known verbs.DelSd ss h = record { again = cleared-again (generic_place (operands_of verbs.DelSd)) ss; lacks = refl; class = refl }
 settled-slots known verbs.RDefine ss h = record { again = cleared-again (generic_place (operands_of verbs.RDefine)) ss; lacks = refl; class = refl }
 settled-slots known verbs.RAlter ss h = record { again = cleared-again (generic_place (operands_of verbs.RAlter)) ss; lacks = refl; class = refl }
+settled-slots known verbs.DefineClass ss h = record { again = cleared-again (generic_place (operands_of verbs.DefineClass)) ss; lacks = refl; class = refl }
+settled-slots known verbs.AlterClass ss h = record { again = cleared-again (generic_place (operands_of verbs.AlterClass)) ss; lacks = refl; class = refl }
 settled-slots known verbs.RDelete ss h = record { again = cleared-again (generic_place (operands_of verbs.RDelete)) ss; lacks = refl; class = refl }
 settled-slots known verbs.SetRopts ss h = record { again = cleared-again (generic_place (operands_of verbs.SetRopts)) ss; lacks = refl; class = refl }
 settled-slots known verbs.Permit ss h =

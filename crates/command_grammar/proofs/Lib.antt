@@ -1,6 +1,7 @@
 pub mod Needs
 pub mod SuitsNone
 pub mod TableFacts
+pub mod ClassRows
 pub mod OperandsAgain
 pub mod PositionsAgain
 pub mod PermitAgain

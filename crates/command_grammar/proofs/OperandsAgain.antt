@@ -64,6 +64,9 @@ value-then_ends (contents.MemberNames ns) rest h = refl
 value-then_ends (contents.Generic g) rest h = refl
 value-then_ends contents.Failures rest h = refl
 value-then_ends (contents.LogOptions cs) rest h = refl
+value-then_ends (contents.Length n) rest h = refl
+value-then_ends (contents.Truth b) rest h = refl
+value-then_ends (contents.ClassNames n) rest h = refl
 
 pub operands-apart : (os : List Operand) (ss : Slots) → IsApart (operands_text os ss)
 operands-apart [] [] = nil-apart
@@ -104,6 +107,9 @@ bare-again at kinds.DroppedMembers p h = absurd h
 bare-again at kinds.Generic p h = absurd h
 bare-again at kinds.Failures p h = absurd h
 bare-again at kinds.LogOptions p h = absurd h
+bare-again at kinds.Length p h = absurd h
+bare-again at kinds.Truth p h = absurd h
+bare-again at kinds.ClassNames p h = absurd h
 
 -- what an operand's text is read as: an item, and the text behind it
 pub record IsReadAs (known : Known) (o : Operand) (v : Content) (rest : List ℕ) (tied : Bool) (p : ℕ) : Type 0 where
@@ -171,6 +177,9 @@ no-profile kinds.DroppedMembers n other h = h
 no-profile kinds.Generic n other h = h
 no-profile kinds.Failures n other h = h
 no-profile kinds.LogOptions n other h = h
+no-profile kinds.Length n other h = h
+no-profile kinds.Truth n other h = h
+no-profile kinds.ClassNames n other h = h
 
 operand-read : (known : Known) (o : Operand) (v : Content) (rest : List ℕ) (tied : Bool) (p : ℕ) → not (is_profile_kind o.kind) ≡ true → Fits o.kind v → Suits known o.kind v → IsApart rest → IsReadAs known o v rest tied p
 operand-read known o contents.Flag rest tied p other h suits apart = flag-read known o rest tied p h apart
@@ -189,6 +198,9 @@ operand-read known o (contents.MemberNames ns) rest tied p other h suits apart =
 operand-read known o (contents.Generic g) rest tied p other h suits apart = valued-read known o (contents.Generic g) rest tied p h suits tt refl
 operand-read known o contents.Failures rest tied p other h suits apart = valued-read known o contents.Failures rest tied p h suits tt refl
 operand-read known o (contents.LogOptions cs) rest tied p other h suits apart = valued-read known o (contents.LogOptions cs) rest tied p h suits tt refl
+operand-read known o (contents.Length n) rest tied p other h suits apart = valued-read known o (contents.Length n) rest tied p h suits tt refl
+operand-read known o (contents.Truth b) rest tied p other h suits apart = valued-read known o (contents.Truth b) rest tied p h suits tt refl
+operand-read known o (contents.ClassNames n) rest tied p other h suits apart = valued-read known o (contents.ClassNames n) rest tied p h suits tt refl
 
 -- The rows from os on: what stands before them was read, and their slots are empty.
 operands_again : (at : Scope) (rows pre os : List Operand) (front ss : Slots) (k : ℕ) (tied : Bool) (p : ℕ) → rows ≡ pre ++ os → length pre ≡ k → length front ≡ k → AreFound rows k os → FitsAll os ss → SuitsAll at.known os ss

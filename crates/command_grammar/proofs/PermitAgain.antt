@@ -157,3 +157,6 @@ permit_one at (contents.MemberNames ns ∷ []) slots tied p lawful = absurd lawf
 permit_one at (contents.Generic g ∷ []) slots tied p lawful = absurd lawful.fits_positions.0
 permit_one at (contents.Failures ∷ []) slots tied p lawful = absurd lawful.fits_positions.0
 permit_one at (contents.LogOptions cs ∷ []) slots tied p lawful = absurd lawful.fits_positions.0
+permit_one at (contents.Length n ∷ []) slots tied p lawful = absurd lawful.fits_positions.0
+permit_one at (contents.Truth b ∷ []) slots tied p lawful = absurd lawful.fits_positions.0
+permit_one at (contents.ClassNames n ∷ []) slots tied p lawful = absurd lawful.fits_positions.0

@@ -13,7 +13,8 @@ use Rattle.command_words.proofs.Letters.{is_letter, BeforeName-steady, EndsWord}
 use Rattle.command_words.proofs.Spelled.{word_token, name_token}
 use Rattle.command_values.specs.declared.faults.Syntax.{Syntax}
 use Rattle.command_values.specs.declared.faults.Syntax.TheVariants as faults
-use Rattle.command_grammar.specs.CommandTable.{data_set_profile}
+use Rattle.command_grammar.specs.CommandTable.{in_class, named_as, data_set_profile}
+use Rattle.command_grammar.proofs.ClassRows.{named-positions, own-name, own-row, row-again}
 use Rattle.command_grammar.specs.declared.table.Verb.{Verb}
 use Rattle.command_values.specs.declared.value_kinds.ValueKind.TheVariants as kinds
 use Rattle.command_grammar.specs.declared.table.Position.{Position}
@@ -25,7 +26,7 @@ use Rattle.command_values.specs.declared.values.Scope.{Scope}
 use Rattle.command_values.specs.Results.{◌>>=◌}
 use Rattle.command_grammar.specs.Table.{full_name, positions_of, operands_of}
 use Rattle.command_fields.specs.ProfileNames.{dataset_profile, dataset_named, text_by_kind, profile_text}
-use Rattle.command_grammar.specs.Reading.{Generic, Slots, is_late, known_behind, behind, positions_at, operands_at, closed, no_slots, plain_at, class_in, late_at, body_at, begins_with_name, begun, command_at, parsed}
+use Rattle.command_grammar.specs.Reading.{Generic, Slots, is_late, known_behind, behind, positions_at, operands_at, closed, no_slots, plain_at, class_in, late_at, class_named, body_at, begins_with_name, begun, command_at, parsed}
 use Rattle.command_grammar.specs.Canon.{positions_text, operands_text, canon, spelled}
 use Rattle.command_grammar.specs.Lawful.{FitsPositions, SuitsPositions, known_last, SuitsAll, class_known, IsLawful}
 use Rattle.command_values.proofs.Patterns.{dataset-named, quoted-named, quote_closes, quoted-sound}
@@ -47,15 +48,17 @@ suits-last g lawful early k same =
     subst (λ (m : Known). SuitsAll m (operands_of g.verb) g.slots)
     (ap (λ c. known_last (class_known (if c then class_in g.slots else None)) (positions_of g.verb) g.positions) early ∙ sym same) lawful.suits_operands
 
-early_body : (at : Context) (v : Verb) (ts : List Token) → is_late (positions_of v) ≡ false → body_at (begun at) v ts ≡ plain_at (begun at) v ts
-early_body at v ts early = ap (λ c. if c then late_at (begun at) v ts else plain_at (begun at) v ts) early
+early_body : (at : Context) (v : Verb) (ts : List Token) → is_late (positions_of v) ≡ false → body_at (begun at) v ts ≡ plain_at (begun at) (in_class v (class_named ts)) ts
+early_body at v ts early = ap (λ c. if c then late_at (begun at) v ts else plain_at (begun at) (in_class v (class_named ts)) ts) early
 
 -- what follows the command's name, where no name is in quotes
 plain_again : (at : Context) (g : Generic) (tied : Bool) (p : ℕ) → IsLawful g → is_late (positions_of g.verb) ≡ false → are_names (positions_of g.verb) ≡ true
-    → body_at (begun at) g.verb (tokens_from Ignored tied 0 p (positions_text g.positions ++ operands_text (operands_of g.verb) g.slots)) ≡ Ok g
+    → body_at (begun at) (named_as g.verb) (tokens_from Ignored tied 0 p (positions_text g.positions ++ operands_text (operands_of g.verb) g.slots)) ≡ Ok g
 plain_again at g tied p lawful early names =
+    let ts : List Token = tokens_from Ignored tied 0 p (positions_text g.positions ++ operands_text (operands_of g.verb) g.slots) in
     let read = positions_again (begun at) (operands_of g.verb) (positions_of g.verb) [] g.positions (operands_text (operands_of g.verb) g.slots) tied p names lawful.fits_positions (nothing-first g lawful early) (operands-apart (operands_of g.verb) g.slots) in
-    early_body at g.verb (tokens_from Ignored tied 0 p (positions_text g.positions ++ operands_text (operands_of g.verb) g.slots)) early
+    early_body at (named_as g.verb) ts (ap is_late (named-positions g.verb) ∙ early)
+    ∙ ap (λ v. plain_at (begun at) v ts) (row-again (begun at) g.verb ts g.positions read.scope_behind (tokens_from Ignored read.tied_behind 0 read.place_behind (operands_text (operands_of g.verb) g.slots)) lawful.chosen read.reads)
     ∙ ap (then_operands g.verb) read.reads ∙ behind_again read.scope_behind g read.tied_behind read.place_behind lawful (suits-last g lawful early read.scope_behind.known read.known_is)
 
 -- a data set's name in quotes
@@ -109,6 +112,9 @@ one_profile g same lawful = one-in g.positions (subst (λ (ps : List Position). 
     one-in (contents.Generic g ∷ []) h = absurd h.0
     one-in (contents.Failures ∷ []) h = absurd h.0
     one-in (contents.LogOptions cs ∷ []) h = absurd h.0
+    one-in (contents.Length n ∷ []) h = absurd h.0
+    one-in (contents.Truth b ∷ []) h = absurd h.0
+    one-in (contents.ClassNames n ∷ []) h = absurd h.0
 
 dataset_again : (at : Context) (g : Generic) (tied : Bool) (p : ℕ) → IsLawful g → positions_of g.verb ≡ data_set_profile
     → body_at (begun at) g.verb (tokens_from AtName tied 0 p (positions_text g.positions ++ operands_text (operands_of g.verb) g.slots)) ≡ Ok g
@@ -122,6 +128,7 @@ dataset_again at g tied p lawful same =
     ∙ quoted_again (begun at) (operands_of g.verb) found.0 rest tied p found.2 (operands-apart (operands_of g.verb) g.slots)
     ∙ ap (λ vs. Ok (vs, behind (begun at) kinds.DataSetProfile (contents.Profile found.0), tokens_from Ignored true 0 (suc p + length (39 ∷ (found.0.text ++ 39 ∷ []))) rest)) (sym found.1) in
     early_body at g.verb (tokens_from AtName tied 0 p (positions_text g.positions ++ rest)) (ap is_late same)
+    ∙ ap (λ v. plain_at (begun at) v (tokens_from AtName tied 0 p (positions_text g.positions ++ rest))) (own-row g.verb (class_named (tokens_from AtName tied 0 p (positions_text g.positions ++ rest))) same)
     ∙ ap (then_operands g.verb) read ∙ behind_again (behind (begun at) kinds.DataSetProfile (contents.Profile found.0)) g true (suc p + length (39 ∷ (found.0.text ++ 39 ∷ []))) lawful
     (suits-last g lawful (ap is_late same) (known_behind (class_known None) kinds.DataSetProfile (contents.Profile found.0))
     (sym (ap (λ ps. known_last (class_known None) ps g.positions) same ∙ ap (known_last (class_known None) data_set_profile) found.1)))
@@ -138,17 +145,26 @@ judged_again at g tied p lawful same =
     let here : ReadsPermit at g.positions g.slots tied p g.verb = subst (λ (v : Verb). ReadsPermit at g.positions g.slots tied p v) (sym same) permits in
     here lawful
 
-body_again : (at : Context) (g : Generic) (tied : Bool) (p : ℕ) → IsLawful g → Shape g.verb
-    → body_at (begun at) g.verb (rest_of g.verb (tokens_from AtName tied 0 p (positions_text g.positions ++ operands_text (operands_of g.verb) g.slots)) (tokens_from Ignored tied 0 p (positions_text g.positions ++ operands_text (operands_of g.verb) g.slots))) ≡ Ok g
+-- what follows the name of a command whose row a class tells
+abbrev ReadsBody : Context → Generic → Bool → ℕ → Verb → Type 0
+ReadsBody at g tied p v =
+    body_at (begun at) v (rest_of v (tokens_from AtName tied 0 p (positions_text g.positions ++ operands_text (operands_of g.verb) g.slots)) (tokens_from Ignored tied 0 p (positions_text g.positions ++ operands_text (operands_of g.verb) g.slots))) ≡ Ok g
+
+body_again : (at : Context) (g : Generic) (tied : Bool) (p : ℕ) → IsLawful g → Shape g.verb → ReadsBody at g tied p (named_as g.verb)
 body_again at g tied p lawful (Plain other early names) =
-    ap (λ c. body_at (begun at) g.verb (if c then tokens_from AtName tied 0 p (positions_text g.positions ++ operands_text (operands_of g.verb) g.slots) else tokens_from Ignored tied 0 p (positions_text g.positions ++ operands_text (operands_of g.verb) g.slots))) other
+    ap (λ c. body_at (begun at) (named_as g.verb) (if c then tokens_from AtName tied 0 p (positions_text g.positions ++ operands_text (operands_of g.verb) g.slots) else tokens_from Ignored tied 0 p (positions_text g.positions ++ operands_text (operands_of g.verb) g.slots))) (ap begins_with_name (named-positions g.verb) ∙ other)
     ∙ plain_again at g tied p lawful early names
 body_again at g tied p lawful (Quoted same) =
+    let own : ReadsBody at g tied p g.verb =
     ap (λ ps. body_at (begun at) g.verb (if begins_with_name ps then tokens_from AtName tied 0 p (positions_text g.positions ++ operands_text (operands_of g.verb) g.slots) else tokens_from Ignored tied 0 p (positions_text g.positions ++ operands_text (operands_of g.verb) g.slots))) same
-    ∙ dataset_again at g tied p lawful same
+    ∙ dataset_again at g tied p lawful same in
+    subst (λ (v : Verb). ReadsBody at g tied p v) (sym (own-name g.verb same)) own
 body_again at g tied p lawful (Judged same) =
+    let own : ReadsBody at g tied p g.verb =
     ap (λ v. body_at (begun at) g.verb (if begins_with_name (positions_of v) then tokens_from AtName tied 0 p (positions_text g.positions ++ operands_text (operands_of g.verb) g.slots) else tokens_from Ignored tied 0 p (positions_text g.positions ++ operands_text (operands_of g.verb) g.slots))) same
-    ∙ judged_again at g tied p lawful same
+    ∙ judged_again at g tied p lawful same in
+    let name : named_as g.verb ≡ g.verb = ap named_as same ∙ sym same in
+    subst (λ (v : Verb). ReadsBody at g tied p v) (sym name) own
 
 naming_token : (tied : Bool) (p : ℕ) (w rest : List ℕ) → IsMore w → list_all is_letter w ≡ true → EndsWord rest
     → tokens_from BeforeName tied 0 p (w ++ rest) ≡ Word p w ∷ tokens_from AtName true 0 (p + length w) rest

@@ -23,12 +23,14 @@ use Rattle.command_values.specs.declared.values.Context.{Context}
 use Rattle.command_values.specs.declared.values.Scope.{Scope}
 use Rattle.command_values.specs.declared.values.Known.{Known}
 use Rattle.command_values.specs.Results.{◌>>=◌, or_fault}
+use Rattle.command_grammar.specs.CommandTable.{in_class, named_as}
+use Rattle.command_grammar.proofs.ClassRows.{is_listed, named-listed, IsSplit, define-split, alter-split, split-chosen}
 use Rattle.command_grammar.specs.Table.{positions_of, operands_of, verb_named}
 use Rattle.command_values.specs.WordsOfValues.{clean, unless_stray}
 use Rattle.command_fields.specs.ProfileNames.{profile_in, form_in, named_by_form, any_named, any_profile}
 use Rattle.command_values.specs.Values.{one}
-use Rattle.command_grammar.specs.Reading.{Generic, Slots, placed, position_at, behind, positions_at, operands_at, clash, unless_clash, is_late, completed, lacking, unless_lacking, closed, no_slots, plain_at, class_in, mark_in, unless_mark, late_word, late_name, late_closed, late_at, body_at, begins_with_name, behind_first, begun, command_at, parsed}
-use Rattle.command_grammar.specs.Lawful.{FitsPositions, FitsAll, SuitsPositions, known_last, SuitsAll, class_known, first_known, IsLawful}
+use Rattle.command_grammar.specs.Reading.{Generic, Slots, placed, position_at, behind, positions_at, operands_at, clash, unless_clash, is_late, completed, lacking, unless_lacking, closed, no_slots, plain_at, class_in, mark_in, unless_mark, late_word, late_name, late_closed, late_at, class_named, body_at, begins_with_name, behind_first, begun, command_at, parsed}
+use Rattle.command_grammar.specs.Lawful.{FitsPositions, FitsAll, SuitsPositions, known_last, SuitsAll, class_known, first_known, class_in_front, IsLawful}
 use Rattle.command_values.proofs.Names.{if-err}
 use Rattle.command_grammar.proofs.SuitsNone.{suits-none}
 use Rattle.command_values.proofs.Patterns.{general-named}
@@ -93,8 +95,10 @@ closed-slots known v slots ss holds h =
       alone = ok.1;
     }
 
-plain-lawful : (at : Context) (v : Verb) (ts : List Token) (g : Generic) → is_late (positions_of v) ≡ false → plain_at (begun at) v ts ≡ Ok g → IsLawful g
-plain-lawful at v ts g early h =
+plain-lawful : (at : Context) (v : Verb) (ts : List Token) (g : Generic) → is_late (positions_of v) ≡ false
+    → ((all : List Content) (last : Scope) (rest : List Token) → positions_at (begun at) (operands_of v) (positions_of v) [] ts ≡ Ok (all, last, rest) → in_class (named_as v) (class_in_front all) ≡ v)
+    → plain_at (begun at) v ts ≡ Ok g → IsLawful g
+plain-lawful at v ts g early chosen h =
     let words = bind-ok (positions_at (begun at) (operands_of v) (positions_of v) [] ts) (λ x. operands_at x.1 (operands_of v) (no_slots (operands_of v)) (valued_words x.2) >>= λ slots. closed v slots >>= λ slots. Ok (record { verb = v; positions = x.0; slots = slots })) g h in
     let filled = bind-ok (operands_at words.0.1 (operands_of v) (no_slots (operands_of v)) (valued_words words.0.2)) (λ slots. closed v slots >>= λ slots. Ok (record { verb = v; positions = words.0.0; slots = slots })) g words.2 in
     let end = bind-ok (closed v filled.0) (λ slots. Ok (record { verb = v; positions = words.0.0; slots = slots })) g filled.2 in
@@ -109,7 +113,7 @@ plain-lawful at v ts g early h =
     let suited_slots : SuitsAll (known_last (first_known v end.0) (positions_of v) words.0.0) (operands_of v) end.0 = subst (λ (k : Known). SuitsAll k (operands_of v) end.0) last closed_so.suits in
     let made_here : Generic = record { verb = v; positions = words.0.0; slots = end.0 } in
     let same : made_here ≡ g = cc in
-    subst (λ (x : Generic). IsLawful x) same (record { fits_positions = positions; fits_operands = closed_so.operands; suits_positions = suited_here; suits_operands = suited_slots; needed = closed_so.lacks; complete = closed_so.whole; apart = closed_so.alone })
+    subst (λ (x : Generic). IsLawful x) same (record { chosen = chosen words.0.0 words.0.1 words.0.2 words.1; fits_positions = positions; fits_operands = closed_so.operands; suits_positions = suited_here; suits_operands = suited_slots; needed = closed_so.lacks; complete = closed_so.whole; apart = closed_so.alone })
 
 -- PERMIT's name is judged by the class that its operand names
 form-fits : (issuer : List ℕ) (form : NameForm) (w : List ℕ) (n : Spelled) → named_by_form issuer form w ≡ Some n → profile_in form n.text ≡ Some n
@@ -147,32 +151,39 @@ late-lawful at ts g h =
     let suited : SuitsPositions (first_known verbs.Permit end.0) (positions_of verbs.Permit) (contents.Profile name.0 ∷ []) = subst (λ (k : Known). SuitsPositions k (positions_of verbs.Permit) (contents.Profile name.0 ∷ [])) (sym closed_so.class) (suits, tt) in
     let made_here : Generic = record { verb = verbs.Permit; positions = contents.Profile name.0 ∷ []; slots = end.0 } in
     let same : made_here ≡ g = cc in
-    subst (λ (x : Generic). IsLawful x) same (record { fits_positions = (tt, tt); fits_operands = closed_so.operands; suits_positions = suited; suits_operands = suits-none (known_last (first_known verbs.Permit end.0) (positions_of verbs.Permit) (contents.Profile name.0 ∷ [])) rows end.0 refl; needed = closed_so.lacks; complete = closed_so.whole; apart = closed_so.alone })
+    subst (λ (x : Generic). IsLawful x) same (record { chosen = refl; fits_positions = (tt, tt); fits_operands = closed_so.operands; suits_positions = suited; suits_operands = suits-none (known_last (first_known verbs.Permit end.0) (positions_of verbs.Permit) (contents.Profile name.0 ∷ [])) rows end.0 refl; needed = closed_so.lacks; complete = closed_so.whole; apart = closed_so.alone })
 
-body-lawful : (at : Context) (v : Verb) (ts : List Token) (g : Generic) → body_at (begun at) v ts ≡ Ok g → IsLawful g
-body-lawful at verbs.AddUser ts g h = plain-lawful at verbs.AddUser ts g refl h
-body-lawful at verbs.AltUser ts g h = plain-lawful at verbs.AltUser ts g refl h
-body-lawful at verbs.DelUser ts g h = plain-lawful at verbs.DelUser ts g refl h
-body-lawful at verbs.AddGroup ts g h = plain-lawful at verbs.AddGroup ts g refl h
-body-lawful at verbs.AltGroup ts g h = plain-lawful at verbs.AltGroup ts g refl h
-body-lawful at verbs.DelGroup ts g h = plain-lawful at verbs.DelGroup ts g refl h
-body-lawful at verbs.Connect ts g h = plain-lawful at verbs.Connect ts g refl h
-body-lawful at verbs.Remove ts g h = plain-lawful at verbs.Remove ts g refl h
-body-lawful at verbs.AddSd ts g h = plain-lawful at verbs.AddSd ts g refl h
-body-lawful at verbs.AltSd ts g h = plain-lawful at verbs.AltSd ts g refl h
-body-lawful at verbs.DelSd ts g h = plain-lawful at verbs.DelSd ts g refl h
-body-lawful at verbs.RDefine ts g h = plain-lawful at verbs.RDefine ts g refl h
-body-lawful at verbs.RAlter ts g h = plain-lawful at verbs.RAlter ts g refl h
-body-lawful at verbs.RDelete ts g h = plain-lawful at verbs.RDelete ts g refl h
-body-lawful at verbs.SetRopts ts g h = plain-lawful at verbs.SetRopts ts g refl h
-body-lawful at verbs.Permit ts g h = late-lawful at ts g h
+-- RDEFINE and RALTER, in CDT and elsewhere
+split-lawful : (at : Context) (v : Verb) (ts : List Token) (g : Generic) → IsSplit v → plain_at (begun at) (in_class v (class_named ts)) ts ≡ Ok g → IsLawful g
+split-lawful at v ts g split h = plain-lawful at (in_class v (class_named ts)) ts g (split.early (class_named ts)) (split-chosen (begun at) v split ts) h
+
+body-lawful : (at : Context) (v : Verb) (ts : List Token) (g : Generic) → is_listed v ≡ true → body_at (begun at) v ts ≡ Ok g → IsLawful g
+body-lawful at verbs.AddUser ts g listed h = plain-lawful at verbs.AddUser ts g refl (λ all last rest read. refl) h
+body-lawful at verbs.AltUser ts g listed h = plain-lawful at verbs.AltUser ts g refl (λ all last rest read. refl) h
+body-lawful at verbs.DelUser ts g listed h = plain-lawful at verbs.DelUser ts g refl (λ all last rest read. refl) h
+body-lawful at verbs.AddGroup ts g listed h = plain-lawful at verbs.AddGroup ts g refl (λ all last rest read. refl) h
+body-lawful at verbs.AltGroup ts g listed h = plain-lawful at verbs.AltGroup ts g refl (λ all last rest read. refl) h
+body-lawful at verbs.DelGroup ts g listed h = plain-lawful at verbs.DelGroup ts g refl (λ all last rest read. refl) h
+body-lawful at verbs.Connect ts g listed h = plain-lawful at verbs.Connect ts g refl (λ all last rest read. refl) h
+body-lawful at verbs.Remove ts g listed h = plain-lawful at verbs.Remove ts g refl (λ all last rest read. refl) h
+body-lawful at verbs.AddSd ts g listed h = plain-lawful at verbs.AddSd ts g refl (λ all last rest read. refl) h
+body-lawful at verbs.AltSd ts g listed h = plain-lawful at verbs.AltSd ts g refl (λ all last rest read. refl) h
+body-lawful at verbs.DelSd ts g listed h = plain-lawful at verbs.DelSd ts g refl (λ all last rest read. refl) h
+body-lawful at verbs.RDefine ts g listed h = split-lawful at verbs.RDefine ts g define-split h
+body-lawful at verbs.RAlter ts g listed h = split-lawful at verbs.RAlter ts g alter-split h
+body-lawful at verbs.RDelete ts g listed h = plain-lawful at verbs.RDelete ts g refl (λ all last rest read. refl) h
+body-lawful at verbs.SetRopts ts g listed h = plain-lawful at verbs.SetRopts ts g refl (λ all last rest read. refl) h
+body-lawful at verbs.DefineClass ts g listed h = cc
+body-lawful at verbs.AlterClass ts g listed h = cc
+body-lawful at verbs.Permit ts g listed h = late-lawful at ts g h
 
 command-lawful : (at : Context) (ts us : List Token) (g : Generic) → command_at at ts us ≡ Ok g → IsLawful g
 command-lawful at [] us g h = cc
 command-lawful at (Word p w ∷ ts) us g h =
     let word = bind-ok (clean Ignored p w) (λ w. or_fault (verb_named (map upper w)) faults.UnknownCommand >>= λ v. body_at (begun at) v (if begins_with_name (positions_of v) then behind_first us else ts)) g h in
     let verb = bind-ok (or_fault (verb_named (map upper word.0)) faults.UnknownCommand) (λ v. body_at (begun at) v (if begins_with_name (positions_of v) then behind_first us else ts)) g word.2 in
-    body-lawful at verb.0 (if begins_with_name (positions_of verb.0) then behind_first us else ts) g verb.2
+    let listed : is_listed verb.0 ≡ true = named-listed (map upper word.0) verb.0 (or_fault-ok (verb_named (map upper word.0)) faults.UnknownCommand verb.0 verb.1) in
+    body-lawful at verb.0 (if begins_with_name (positions_of verb.0) then behind_first us else ts) g listed verb.2
 command-lawful at (Group tied p t ∷ ts) us g h = cc
 command-lawful at (Open tied p place ∷ ts) us g h = cc
 command-lawful at (Close p ∷ ts) us g h = cc

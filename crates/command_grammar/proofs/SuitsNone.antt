@@ -44,6 +44,9 @@ suits-any known kinds.DroppedMembers v h = cc
 suits-any known kinds.Generic v h = tt
 suits-any known kinds.Failures v h = tt
 suits-any known kinds.LogOptions v h = tt
+suits-any known kinds.Length v h = tt
+suits-any known kinds.Truth v h = tt
+suits-any known kinds.ClassNames v h = tt
 
 pub suits-none : (known : Known) (os : List Operand) (ss : Slots) → none_members os ≡ true → SuitsAll known os ss
 suits-none known [] ss h = tt

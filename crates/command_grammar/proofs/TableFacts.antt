@@ -17,7 +17,7 @@ use Rattle.command_grammar.specs.declared.table.Position.{Position}
 use Rattle.command_grammar.specs.declared.table.Operand.{Operand}
 use Rattle.command_values.specs.OperandWords.{spelling_of}
 use Rattle.command_grammar.specs.Table.{full_name, positions_of, operands_of, verb_named}
-use Rattle.command_grammar.specs.CommandTable.{data_set_profile}
+use Rattle.command_grammar.specs.CommandTable.{named_as, data_set_profile}
 use Rattle.command_grammar.specs.Reading.{is_spelling, is_late, begins_with_name}
 
 abbrev pub IsMore : List ℕ → Type 0
@@ -88,6 +88,8 @@ spelling-plain words.Global = record { some = tt; letters = refl; sound = λ p. 
 spelling-plain words.Noglobal = record { some = tt; letters = refl; sound = λ p. refl; folded = refl }
 spelling-plain words.Refresh = record { some = tt; letters = refl; sound = λ p. refl; folded = refl }
 spelling-plain words.Logoptions = record { some = tt; letters = refl; sound = λ p. refl; folded = refl }
+spelling-plain words.Maxlength = record { some = tt; letters = refl; sound = λ p. refl; folded = refl }
+spelling-plain words.Names = record { some = tt; letters = refl; sound = λ p. refl; folded = refl }
 
 pub full_name-plain : (v : Verb) → IsPlainWord (full_name v)
 full_name-plain verbs.AddUser = record { some = tt; letters = refl; sound = λ p. refl; folded = refl }
@@ -103,11 +105,13 @@ full_name-plain verbs.AltSd = record { some = tt; letters = refl; sound = λ p. 
 full_name-plain verbs.DelSd = record { some = tt; letters = refl; sound = λ p. refl; folded = refl }
 full_name-plain verbs.RDefine = record { some = tt; letters = refl; sound = λ p. refl; folded = refl }
 full_name-plain verbs.RAlter = record { some = tt; letters = refl; sound = λ p. refl; folded = refl }
+full_name-plain verbs.DefineClass = record { some = tt; letters = refl; sound = λ p. refl; folded = refl }
+full_name-plain verbs.AlterClass = record { some = tt; letters = refl; sound = λ p. refl; folded = refl }
 full_name-plain verbs.RDelete = record { some = tt; letters = refl; sound = λ p. refl; folded = refl }
 full_name-plain verbs.Permit = record { some = tt; letters = refl; sound = λ p. refl; folded = refl }
 full_name-plain verbs.SetRopts = record { some = tt; letters = refl; sound = λ p. refl; folded = refl }
 
-pub verb_named-full_name : (v : Verb) → verb_named (full_name v) ≡ Some v
+pub verb_named-full_name : (v : Verb) → verb_named (full_name v) ≡ Some (named_as v)
 verb_named-full_name verbs.AddUser = refl
 verb_named-full_name verbs.AltUser = refl
 verb_named-full_name verbs.DelUser = refl
@@ -121,6 +125,8 @@ verb_named-full_name verbs.AltSd = refl
 verb_named-full_name verbs.DelSd = refl
 verb_named-full_name verbs.RDefine = refl
 verb_named-full_name verbs.RAlter = refl
+verb_named-full_name verbs.DefineClass = refl
+verb_named-full_name verbs.AlterClass = refl
 verb_named-full_name verbs.RDelete = refl
 verb_named-full_name verbs.Permit = refl
 verb_named-full_name verbs.SetRopts = refl
@@ -169,6 +175,8 @@ all_found verbs.AltSd = refl
 all_found verbs.DelSd = refl
 all_found verbs.RDefine = refl
 all_found verbs.RAlter = refl
+all_found verbs.DefineClass = refl
+all_found verbs.AlterClass = refl
 all_found verbs.RDelete = refl
 all_found verbs.Permit = refl
 all_found verbs.SetRopts = refl
@@ -199,6 +207,9 @@ is_name_kind kinds.DroppedMembers = false
 is_name_kind kinds.Generic = false
 is_name_kind kinds.Failures = false
 is_name_kind kinds.LogOptions = false
+is_name_kind kinds.Length = false
+is_name_kind kinds.Truth = false
+is_name_kind kinds.ClassNames = false
 
 -- a command's positional words are names as they are written; or the first is a data set's in quotes; or it is PERMIT's
 pub data Shape (v : Verb) : Type 0 where
@@ -217,6 +228,8 @@ shape verbs.Connect = Plain refl refl refl
 shape verbs.Remove = Plain refl refl refl
 shape verbs.RDefine = Plain refl refl refl
 shape verbs.RAlter = Plain refl refl refl
+shape verbs.DefineClass = Plain refl refl refl
+shape verbs.AlterClass = Plain refl refl refl
 shape verbs.RDelete = Plain refl refl refl
 shape verbs.SetRopts = Plain refl refl refl
 shape verbs.AddSd = Quoted refl

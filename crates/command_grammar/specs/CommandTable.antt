@@ -1,7 +1,8 @@
 -- The table of commands, as RACF's command language has them: how each is called, its positional words, its operands in
 -- the order in which they are written, the operands that exclude one another, and those that are needed.
-use Rattle.std.specs.Prelude.{ℕ, List, [], ◌∷◌, codes, Option, None, Some}
+use Rattle.std.specs.Prelude.{ℕ, List, [], ◌∷◌, codes, bytes_eq, if◌then◌else◌, Option, None, Some}
 use Rattle.access_levels.specs.declared.levels.Level.TheVariants.{Read}
+use Rattle.command_fields.specs.Classes.{cdt}
 use Rattle.command_values.specs.declared.operand_words.Word.{Word}
 use Rattle.command_values.specs.declared.operand_words.Word.TheVariants as words
 use Rattle.command_grammar.specs.declared.table.Verb.{Verb}
@@ -13,12 +14,24 @@ use Rattle.command_grammar.specs.declared.table.Operand.{Operand}
 use Rattle.command_values.specs.declared.values.Content.{Content}
 use Rattle.command_values.specs.declared.values.Content.TheVariants as contents
 
--- The commands, in the order of the table.
+-- The commands that a word names, in the order of the table.
 abbrev pub commands : List Verb
 commands =
     verbs.AddUser ∷ verbs.AltUser ∷ verbs.DelUser ∷ verbs.AddGroup ∷ verbs.AltGroup ∷ verbs.DelGroup ∷ verbs.Connect ∷ verbs.Remove
     ∷ verbs.AddSd ∷ verbs.AltSd ∷ verbs.DelSd ∷ verbs.RDefine ∷ verbs.RAlter ∷ verbs.RDelete ∷ verbs.Permit
     ∷ verbs.SetRopts ∷ []
+
+-- RDEFINE and RALTER in class CDT, whose profiles define classes, are commands of their own: they have the names of RDEFINE and
+-- RALTER, and are told from them by the class.
+abbrev pub in_class : Verb → Option (List ℕ) → Verb
+in_class verbs.RDefine (Some class) = if bytes_eq class cdt then verbs.DefineClass else verbs.RDefine
+in_class verbs.RAlter (Some class) = if bytes_eq class cdt then verbs.AlterClass else verbs.RAlter
+in_class v class = v
+
+abbrev pub named_as : Verb → Verb
+named_as verbs.DefineClass = verbs.RDefine
+named_as verbs.AlterClass = verbs.RAlter
+named_as v = v
 
 -- An operand of a command, and the value that it has where it isn't given, if there is one.
 pub record OperandRow : Type 0 where
@@ -227,6 +240,25 @@ row_of verbs.RAlter = record {
   excluded =
       (words.Warning, words.Nowarning) ∷ (words.Seclevel, words.Noseclevel)
       ∷ (words.Seclabel, words.Noseclabel) ∷ [];
+  needed = [];
+}
+row_of verbs.DefineClass = record {
+  name = codes "RDEFINE";
+  abbreviation = codes "RDEF";
+  positions = class_and_profile;
+  operands =
+      takes words.Owner kinds.Id ∷ takes words.Maxlength kinds.Length ∷ takes words.Operations kinds.Truth
+      ∷ takes words.Names kinds.ClassNames ∷ [];
+  excluded = [];
+  needed = [];
+}
+row_of verbs.AlterClass = record {
+  name = codes "RALTER";
+  abbreviation = codes "RALT";
+  positions = class_and_profile;
+  operands =
+      takes words.Owner kinds.Id ∷ [];
+  excluded = [];
   needed = [];
 }
 row_of verbs.RDelete = record {

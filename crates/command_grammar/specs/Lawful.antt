@@ -4,6 +4,8 @@ use Rattle.command_grammar.specs.declared.table.Position.{Position}
 use Rattle.command_grammar.specs.declared.table.Operand.{Operand}
 use Rattle.command_grammar.specs.declared.table.Verb.{Verb}
 use Rattle.command_values.specs.declared.values.Content.{Content}
+use Rattle.command_values.specs.declared.values.Content.TheVariants as contents
+use Rattle.command_grammar.specs.CommandTable.{in_class, named_as}
 use Rattle.command_values.specs.declared.values.Known.{Known}
 use Rattle.command_values.specs.LawfulValues.{Fits, Suits}
 use Rattle.command_grammar.specs.Table.{positions_of, operands_of}
@@ -46,8 +48,14 @@ class_known class = record { class = class; profile = None }
 abbrev pub first_known : Verb → Slots → Known
 first_known v slots = class_known (if is_late (positions_of v) then class_in slots else None)
 
--- What a text can spell.
+-- the class that the first positional word is, if it is one
+abbrev pub class_in_front : List Content → Option (List ℕ)
+class_in_front (contents.Id class ∷ vs) = Some class
+class_in_front vs = None
+
+-- What a text can spell. Which of two commands of one name it is, the class says.
 pub record IsLawful (g : Generic) : Type 0 where
+  pub chosen : in_class (named_as g.verb) (class_in_front g.positions) ≡ g.verb
   pub fits_positions : FitsPositions (positions_of g.verb) g.positions
   pub fits_operands : FitsAll (operands_of g.verb) g.slots
   pub suits_positions : SuitsPositions (first_known g.verb g.slots) (positions_of g.verb) g.positions

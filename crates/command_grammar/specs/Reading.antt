@@ -18,8 +18,9 @@ use Rattle.command_grammar.specs.declared.table.Operand.{Operand}
 use Rattle.command_values.specs.declared.values.Content.{Content}
 use Rattle.command_values.specs.declared.values.Content.TheVariants as contents
 use Rattle.command_values.specs.OperandWords.{spelling_of, same_word}
-use Rattle.command_grammar.specs.CommandTable.{Needed}
+use Rattle.command_grammar.specs.CommandTable.{Needed, in_class}
 use Rattle.command_grammar.specs.Table.{positions_of, operands_of, excluded_of, needed_of, default_of, verb_named}
+use Rattle.command_values.specs.NamedWords.{id_named}
 use Rattle.command_values.specs.Results.{◌>>=◌, or_fault}
 use Rattle.command_values.specs.declared.values.Context.{Context}
 use Rattle.command_values.specs.declared.values.Scope.{Scope}
@@ -280,8 +281,19 @@ late_at at v ts =
     late_closed n v slots >>= λ slots.
     Ok (record { verb = v; positions = contents.Profile n ∷ []; slots = slots })
 
+-- The class that the first positional word names, if it names one.
+abbrev pub class_of_word : Result ((ℕ × List ℕ × Option ℕ) × List Token) Syntax → Option (List ℕ)
+class_of_word (Ok x) = id_named x.0.1
+class_of_word (Err fault) = None
+
+abbrev pub class_position : Position
+class_position = record { word = words.Class; kind = kinds.Class }
+
+abbrev pub class_named : List Token → Option (List ℕ)
+class_named ts = class_of_word (placed [] class_position ts)
+
 abbrev pub body_at : Scope → Verb → List Token → Result Generic Syntax
-body_at at v ts = if is_late (positions_of v) then late_at at v ts else plain_at at v ts
+body_at at v ts = if is_late (positions_of v) then late_at at v ts else plain_at at (in_class v (class_named ts)) ts
 
 -- whether the first positional word may be a name in quotes
 abbrev pub begins_with_name : List Position → Bool

@@ -1,4 +1,5 @@
-//! The operands, each with its word and the kind of its value: the same in every command that has it.
+//! The operands, each with its word and the kind of its value: the same in every command that has it, but for
+//! OPERATIONS of a class.
 
 use crate::table::Operand;
 use command_values::{ValueKind, Word};
@@ -201,4 +202,20 @@ pub const DELETE: Operand = Operand {
 pub const WHEN: Operand = Operand {
     word: Word::When,
     kind: ValueKind::When,
+};
+
+pub const MAXLENGTH: Operand = Operand {
+    word: Word::Maxlength,
+    kind: ValueKind::Length,
+};
+
+/// OPERATIONS of a class that is defined.
+pub const CLASS_OPERATIONS: Operand = Operand {
+    word: Word::Operations,
+    kind: ValueKind::Truth,
+};
+
+pub const NAMES: Operand = Operand {
+    word: Word::Names,
+    kind: ValueKind::ClassNames,
 };

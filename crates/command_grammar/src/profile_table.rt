@@ -2,8 +2,9 @@
 //! product's own).
 
 use crate::operand_rows::{
-    ACCESS, ADDCATEGORY, ADDMEM, AUDIT, CLASS, DELCATEGORY, DELETE, DELMEM, GENERIC, GLOBALAUDIT,
-    ID, NOSECLABEL, NOSECLEVEL, NOWARNING, OWNER, RESET, SECLABEL, SECLEVEL, UACC, WARNING, WHEN,
+    ACCESS, ADDCATEGORY, ADDMEM, AUDIT, CLASS, CLASS_OPERATIONS, DELCATEGORY, DELETE, DELMEM,
+    GENERIC, GLOBALAUDIT, ID, MAXLENGTH, NAMES, NOSECLABEL, NOSECLEVEL, NOWARNING, OWNER, RESET,
+    SECLABEL, SECLEVEL, UACC, WARNING, WHEN,
 };
 use crate::table::{Needed, Operand, Position};
 use command_values::{ValueKind, Word};
@@ -90,6 +91,12 @@ pub const RDEFINE_OPERANDS: [Operand; 9] = [
 
 /// The operands of RDEFINE that exclude one another.
 pub const RDEFINE_EXCLUDED: [(Word, Word); 1] = [(Word::Warning, Word::Nowarning)];
+
+/// The operands of RDEFINE in class CDT.
+pub const DEFINE_CLASS_OPERANDS: [Operand; 4] = [OWNER, MAXLENGTH, CLASS_OPERATIONS, NAMES];
+
+/// The operands of RALTER in class CDT.
+pub const ALTER_CLASS_OPERANDS: [Operand; 1] = [OWNER];
 
 /// The operands of RALTER.
 pub const RALTER_OPERANDS: [Operand; 14] = [

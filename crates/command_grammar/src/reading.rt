@@ -3,17 +3,20 @@
 ghost use Rattle.std.specs.Prelude.{◌≡◌, ◌+◌, ◌<◌, ◌≤◌, ◌^◌, [], length, map, find, if◌then◌else◌};
 ghost use Rattle.command_words.specs.Bytes.{upper};
 ghost use Rattle.command_words.specs.Tokens.{tokens, of_naming_command};
+ghost use Rattle.command_grammar.specs.CommandTable.{in_class as verb_in_class};
 ghost use Rattle.command_grammar.specs.Table.{verb_named as verb_called, positions_of};
 ghost use Rattle.command_values.specs.Results.{Gives, Finds};
-ghost use Rattle.command_grammar.specs.Reading.{takes_quotes as may_be_quoted, bounded as bounded_in, placed as placed_in, position_at, behind as scope_behind, positions_at, late_word as late_word_in, late_name as late_name_in, plain_at, late_at, body_at, begins_with_name as may_begin_quoted, behind_first as rest_behind, begun as scope_begun, parsed};
+ghost use Rattle.command_grammar.specs.Reading.{takes_quotes as may_be_quoted, bounded as bounded_in, placed as placed_in, position_at, behind as scope_behind, positions_at, late_word as late_word_in, late_name as late_name_in, plain_at, late_at, class_named as class_named_in, body_at, begins_with_name as may_begin_quoted, behind_first as rest_behind, begun as scope_begun, parsed};
 ghost use Rattle.command_grammar.specs.Parts.{generic};
 
 use crate::closing::{class_in, closed, is_late, late_closed};
 use crate::operands::{named, operands};
+use crate::profile_table::CLASS_POSITIONS;
 use crate::table::{Operand, Position, VERBS, Verb};
+use access_levels::Id;
 use command_values::{
     Content, Context, Known, ParseFault, ProfileName, Scope, Syntax, ValueKind, Word, any_named,
-    clean, held, is_unclosed, one, unless_stray,
+    clean, held, id_named, is_unclosed, one, unless_stray,
 };
 use command_words::{Piece, Quoting, Tokens, is_spelled};
 use generic_names::Pattern;
@@ -221,6 +224,29 @@ fn late(alloc: Global, at: Scope, verb: Verb, text: Tokens<'_>) -> Result<Parts,
     })
 }
 
+/// The class that the first positional word names, if it names one.
+#[inline(always)]
+fn class_named(text: &Tokens<'_>) -> Option<Id>
+    ensures { result ≡ class_named_in (tokens text.now) }
+{
+    match placed(&[], CLASS_POSITIONS[0], text) {
+        Ok(((_, word, _), _)) => id_named(word),
+        Err(_) => None,
+    }
+}
+
+/// The command of this name, by the class that stands behind it where that counts.
+#[inline(always)]
+fn by_class(verb: Verb, text: &Tokens<'_>) -> Verb
+    ensures { result ≡ verb_in_class verb (class_named_in (tokens text.now)) }
+{
+    match verb {
+        Verb::RDefine => verb.in_class(class_named(text)),
+        Verb::RAlter => verb.in_class(class_named(text)),
+        other => other,
+    }
+}
+
 /// What follows the command's name.
 #[inline(always)]
 fn body(alloc: Global, at: Scope, verb: Verb, text: Tokens<'_>) -> Result<Parts, ParseFault>
@@ -229,7 +255,7 @@ fn body(alloc: Global, at: Scope, verb: Verb, text: Tokens<'_>) -> Result<Parts,
     if is_late(verb) {
         late(alloc, at, verb, text)
     } else {
-        plain(alloc, at, verb, text)
+        plain(alloc, at, by_class(verb, &text), text)
     }
 }
 

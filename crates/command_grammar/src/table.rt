@@ -14,11 +14,14 @@ use crate::operand_rows::{
     OWNER, RESTRICTED, RESUME, REVOKE, SECLABEL, SECLEVEL, SPECIAL, SUPGROUP, UAUDIT,
 };
 use crate::profile_table::{
-    ADDSD_EXCLUDED, ADDSD_OPERANDS, ALTDSD_EXCLUDED, ALTDSD_OPERANDS, CLASS_POSITIONS,
-    DATASET_POSITION, DELDSD_OPERANDS, PERMIT_EXCLUDED, PERMIT_NEEDED, PERMIT_OPERANDS,
-    PERMIT_POSITION, RALTER_EXCLUDED, RALTER_OPERANDS, RDEFINE_EXCLUDED, RDEFINE_OPERANDS,
+    ADDSD_EXCLUDED, ADDSD_OPERANDS, ALTDSD_EXCLUDED, ALTDSD_OPERANDS, ALTER_CLASS_OPERANDS,
+    CLASS_POSITIONS, DATASET_POSITION, DEFINE_CLASS_OPERANDS, DELDSD_OPERANDS, PERMIT_EXCLUDED,
+    PERMIT_NEEDED, PERMIT_OPERANDS, PERMIT_POSITION, RALTER_EXCLUDED, RALTER_OPERANDS,
+    RDEFINE_EXCLUDED, RDEFINE_OPERANDS,
 };
 use crate::setropts_table::{SETROPTS_EXCLUDED, SETROPTS_NEEDED, SETROPTS_OPERANDS};
+use access_levels::Id;
+use command_fields::is_cdt;
 use command_values::{ValueKind, Word};
 
 /// The commands.
@@ -36,13 +39,17 @@ pub enum Verb {
     AltSd,
     DelSd,
     RDefine,
+    /// RDEFINE in class CDT.
+    DefineClass,
     RAlter,
+    /// RALTER in class CDT.
+    AlterClass,
     RDelete,
     Permit,
     SetRopts,
 }
 
-/// The commands in the order of the table.
+/// The commands that a word names, in the order of the table.
 pub const VERBS: [Verb; 16] = [
     Verb::AddUser,
     Verb::AltUser,
@@ -197,7 +204,20 @@ pub const CONNECT_EXCLUDED: [(Word, Word); 4] = [
 pub const REMOVE_OPERANDS: [Operand; 1] = [GROUP];
 
 impl Verb {
+    ghost use Rattle.std.specs.Prelude.{List, ℕ, Option};
+    ghost use Rattle.command_grammar.specs.CommandTable.{in_class};
     ghost use Rattle.command_grammar.specs.Table.{full_name, short_name, positions_of, operands_of, excluded_of, needed_of};
+
+    /// The command of this name in that class: RDEFINE and RALTER have operands of their own in CDT.
+    pub fn in_class(self, class: Option<Id>) -> Verb
+        ensures { result ≡ in_class self class }
+    {
+        match (self, class) {
+            (Verb::RDefine, Some(class)) if is_cdt(class) => Verb::DefineClass,
+            (Verb::RAlter, Some(class)) if is_cdt(class) => Verb::AlterClass,
+            (verb, _) => verb,
+        }
+    }
 
     /// The command's full name.
     pub fn full_name(self) -> &'static [u8]
@@ -216,7 +236,9 @@ impl Verb {
             Verb::AltSd => b"ALTDSD".as_slice(),
             Verb::DelSd => b"DELDSD".as_slice(),
             Verb::RDefine => b"RDEFINE".as_slice(),
+            Verb::DefineClass => b"RDEFINE".as_slice(),
             Verb::RAlter => b"RALTER".as_slice(),
+            Verb::AlterClass => b"RALTER".as_slice(),
             Verb::RDelete => b"RDELETE".as_slice(),
             Verb::Permit => b"PERMIT".as_slice(),
             Verb::SetRopts => b"SETROPTS".as_slice(),
@@ -240,7 +262,9 @@ impl Verb {
             Verb::AltSd => b"ALD".as_slice(),
             Verb::DelSd => b"DD".as_slice(),
             Verb::RDefine => b"RDEF".as_slice(),
+            Verb::DefineClass => b"RDEF".as_slice(),
             Verb::RAlter => b"RALT".as_slice(),
+            Verb::AlterClass => b"RALT".as_slice(),
             Verb::RDelete => b"RDEL".as_slice(),
             Verb::Permit => b"PE".as_slice(),
             Verb::SetRopts => b"SETR".as_slice(),
@@ -264,7 +288,9 @@ impl Verb {
             Verb::AltSd => &DATASET_POSITION,
             Verb::DelSd => &DATASET_POSITION,
             Verb::RDefine => &CLASS_POSITIONS,
+            Verb::DefineClass => &CLASS_POSITIONS,
             Verb::RAlter => &CLASS_POSITIONS,
+            Verb::AlterClass => &CLASS_POSITIONS,
             Verb::RDelete => &CLASS_POSITIONS,
             Verb::Permit => &PERMIT_POSITION,
             Verb::SetRopts => &[],
@@ -288,7 +314,9 @@ impl Verb {
             Verb::AltSd => &ALTDSD_OPERANDS,
             Verb::DelSd => &DELDSD_OPERANDS,
             Verb::RDefine => &RDEFINE_OPERANDS,
+            Verb::DefineClass => &DEFINE_CLASS_OPERANDS,
             Verb::RAlter => &RALTER_OPERANDS,
+            Verb::AlterClass => &ALTER_CLASS_OPERANDS,
             Verb::RDelete => &[],
             Verb::Permit => &PERMIT_OPERANDS,
             Verb::SetRopts => &SETROPTS_OPERANDS,
@@ -312,7 +340,9 @@ impl Verb {
             Verb::AltSd => &ALTDSD_EXCLUDED,
             Verb::DelSd => &[],
             Verb::RDefine => &RDEFINE_EXCLUDED,
+            Verb::DefineClass => &[],
             Verb::RAlter => &RALTER_EXCLUDED,
+            Verb::AlterClass => &[],
             Verb::RDelete => &[],
             Verb::Permit => &PERMIT_EXCLUDED,
             Verb::SetRopts => &SETROPTS_EXCLUDED,

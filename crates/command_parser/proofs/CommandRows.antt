@@ -11,6 +11,7 @@ use Rattle.command_values.specs.declared.values.Context.{Context}
 use Rattle.command_grammar.specs.Canon.{canon, spelled}
 use Rattle.command_fields.specs.declared.fields.CommandFields.{CommandFields}
 use Rattle.command_fields.specs.declared.fields.CommandFields.TheVariants as command
+use Rattle.command_fields.specs.ProfileNames.{form_in}
 use Rattle.command_parser.specs.Canonical.{canonical}
 use Rattle.command_parser.specs.Fields.{front, behind}
 use Rattle.command_parser.specs.CommandOf.{command_of, command_in}
@@ -112,3 +113,44 @@ owner-is-owner = refl
 superior-written-first : canonical (altered (codes "A") (codes "B")) ≡ codes "ALTGROUP G SUPGROUP(A) OWNER(B)"
 unfolding canonical altered
 superior-written-first = refl
+
+-- RDEFINE and RALTER have operands of their own in class CDT, and there alone.
+class-defined : written (codes "rdef cdt appx m(7) op(yes)") ≡ Ok (codes "RDEFINE CDT APPX MAXLENGTH(7) OPERATIONS(YES)")
+unfolding tokens parsed canon form_in
+class-defined = refl
+
+class-in-parentheses : written (codes "RDEFINE (CDT) (A) NAMES(ID) OW(SYS1)") ≡ Ok (codes "RDEFINE CDT A OWNER(SYS1) NAMES(ID)")
+unfolding tokens parsed canon form_in
+class-in-parentheses = refl
+
+class-altered : written (codes "RALT CDT A O(X)") ≡ Ok (codes "RALTER CDT A OWNER(X)")
+unfolding tokens parsed canon form_in
+class-altered = refl
+
+class-operand-elsewhere : written (codes "RDEF FACILITY A MAXLENGTH(7)") ≡ Err (UnknownOperand 17)
+unfolding tokens parsed canon form_in
+class-operand-elsewhere = refl
+
+no-class-operand : written (codes "RDEF CDT 9A UACC(READ)") ≡ Err (UnknownOperand 13)
+unfolding tokens parsed canon form_in
+no-class-operand = refl
+
+several-class-operands : written (codes "RDEF CDT D O(SYS1)") ≡ Err (AmbiguousOperand 12)
+unfolding tokens parsed canon form_in
+several-class-operands = refl
+
+zero-in-front : written (codes "RDEF CDT C MAXLENGTH(05)") ≡ Err (BadValue 22)
+unfolding tokens parsed canon form_in
+zero-in-front = refl
+
+no-length : written (codes "RDEF CDT C MAXLENGTH(247)") ≡ Err (BadValue 22)
+unfolding tokens parsed canon form_in
+no-length = refl
+
+no-class-name : written (codes "RDEL CDT A.B") ≡ Err (BadValue 10)
+unfolding tokens parsed canon form_in
+no-class-name = refl
+
+profile-lacks : written (codes "RDEF CDT MAXLENGTH(7)") ≡ Err (Missing words.Profile)
+unfolding tokens parsed canon form_in
+profile-lacks = refl

@@ -31,7 +31,8 @@ use Rattle.command_values.proofs.Patterns.{dataset-named, class-named}
 use Rattle.command_fields.specs.declared.option_fields.SetRopts.{SetRopts}
 use Rattle.command_fields.specs.declared.fields.CommandFields.{CommandFields}
 use Rattle.command_fields.specs.declared.fields.CommandFields.TheVariants as command
-use Rattle.command_parser.specs.Operands.{id_value, name_value, ids_value, audit_value, whos_value, when_value, members_value, member_names_value, log_clauses_value, values_of, operands_of_set_ropts}
+use Rattle.command_fields.specs.Classes.{cdt, is_longest}
+use Rattle.command_parser.specs.Operands.{length_value, id_value, name_value, ids_value, audit_value, whos_value, when_value, members_value, member_names_value, log_clauses_value, values_of, operands_of_set_ropts}
 use Rattle.command_parser.specs.Canonical.{generic_view}
 use Rattle.command_fields.specs.LawfulFields.{IsId, IsGroupName, IsUserName, IsClauthWord, IsAudit, IsNamedOne, AreWhosOfPermit, IsPort, AreMembersOf, AreMemberNamesOf, IsLogClause, refreshes_some, AreLawfulFields}
 
@@ -95,6 +96,10 @@ name-given (Some t) h = h
 audit-given : (o : Option AuditRule) → IfFits kinds.Audit (audit_value o) → IfSome o IsAudit
 audit-given None h = tt
 audit-given (Some rule) h = h
+
+length-given : (o : Option ℕ) → IfFits kinds.Length (length_value o) → IfSome o (λ n. is_longest n ≡ true)
+length-given None h = tt
+length-given (Some n) h = h
 
 when-given : (o : Option Condition) → IfFits kinds.When (when_value o) → IfSome o IsPort
 when-given None h = tt
@@ -259,6 +264,21 @@ fields-lawful (command.RAlter a) lawful =
       seclabel = id-given a.seclabel (fits words.Seclabel);
       addmem = members-given a.class a.profile a.addmem (suits-at known (place words.Addmem (operands_of verbs.RAlter)) (operands_of verbs.RAlter) (generic_view (command.RAlter a)).slots lawful.suits_operands);
       delmem = member-names-given a.class a.profile a.delmem (suits-at known (place words.Delmem (operands_of verbs.RAlter)) (operands_of verbs.RAlter) (generic_view (command.RAlter a)).slots lawful.suits_operands);
+    }
+fields-lawful (command.DefineClass a) lawful =
+    let fits = λ (w : Word). fits-at (place w (operands_of verbs.DefineClass)) (operands_of verbs.DefineClass) (generic_view (command.DefineClass a)).slots lawful.fits_operands in
+    record {
+      profile = lawful.suits_positions.1.0;
+      kind = (class-named (Some cdt) a.profile.text a.profile lawful.suits_positions.1.0).kinds;
+      owner = id-given a.owner (fits words.Owner);
+      maxlength = length-given a.maxlength (fits words.Maxlength);
+    }
+fields-lawful (command.AlterClass a) lawful =
+    let fits = λ (w : Word). fits-at (place w (operands_of verbs.AlterClass)) (operands_of verbs.AlterClass) (generic_view (command.AlterClass a)).slots lawful.fits_operands in
+    record {
+      profile = lawful.suits_positions.1.0;
+      kind = (class-named (Some cdt) a.profile.text a.profile lawful.suits_positions.1.0).kinds;
+      owner = id-given a.owner (fits words.Owner);
     }
 fields-lawful (command.RDelete a) lawful = record { class = class-given a.class lawful.fits_positions.0; profile = lawful.suits_positions.1.0; kind = (class-named (Some a.class) a.profile.text a.profile lawful.suits_positions.1.0).kinds }
 fields-lawful (command.Permit a) lawful =

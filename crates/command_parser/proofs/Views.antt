@@ -1,6 +1,7 @@
 -- A command is read back from the table's view of it, and what fits the table is the view of a command.
 use Rattle.std.proofs.Common.{◌≡◌, ℕ, List, [], ◌∷◌, Bool, true, false, cond, Option, None, Some, refl, sym, ap, subst, ◌∙◌}
-use Rattle.std.specs.Prelude.{slice_set, codes}
+use Rattle.std.specs.Prelude.{slice_set, bytes_eq, codes}
+use Rattle.std.proofs.lemmas.Slice.Eq.{bytes_eq-Decides}
 use Rattle.std.specs.Option.{option_map}
 use Rattle.access_levels.specs.declared.levels.Level.TheVariants.{Read}
 use Rattle.access_levels.specs.declared.authorities.GroupAuthority.{GroupAuthority}
@@ -15,22 +16,24 @@ use Rattle.command_grammar.specs.declared.table.Verb.TheVariants as verbs
 use Rattle.command_values.specs.declared.value_kinds.ValueKind.{ValueKind}
 use Rattle.command_values.specs.declared.value_kinds.ValueKind.TheVariants as kinds
 use Rattle.command_grammar.specs.declared.table.Operand.{Operand}
-use Rattle.command_grammar.specs.CommandTable.{user, group, data_set_profile, class_and_profile, any_profile}
+use Rattle.command_grammar.specs.CommandTable.{in_class, named_as, user, group, data_set_profile, class_and_profile, any_profile}
 use Rattle.command_values.specs.declared.values.Content.{Content}
 use Rattle.command_values.specs.declared.values.Content.TheVariants as contents
 use Rattle.command_fields.specs.declared.resets.Reset.{Reset}
 use Rattle.command_fields.specs.declared.log_clauses.LogClause.{LogClause}
+use Rattle.command_fields.specs.declared.class_fields.ClassNames.{ClassNames}
+use Rattle.command_fields.specs.Classes.{cdt}
 use Rattle.command_fields.specs.declared.fields.CommandFields.{CommandFields}
 use Rattle.command_fields.specs.declared.fields.CommandFields.TheVariants as fields
 use Rattle.command_grammar.specs.Reading.{Generic, Slots, means_read, completed}
 use Rattle.command_values.specs.LawfulValues.{Fits}
-use Rattle.command_grammar.specs.Lawful.{FitsAll, FitsPositions, IsLawful}
+use Rattle.command_grammar.specs.Lawful.{FitsAll, FitsPositions, class_in_front, IsLawful}
 use Rattle.command_grammar.specs.Table.{positions_of, operands_of}
-use Rattle.command_parser.specs.Operands.{flag_value, id_value, authority_value, name_value, ids_value, level_value, audit_value, reset_value, whos_value, when_value, members_value, member_names_value, failures_value, log_clauses_value}
+use Rattle.command_parser.specs.Operands.{flag_value, id_value, authority_value, name_value, ids_value, level_value, audit_value, reset_value, whos_value, when_value, members_value, member_names_value, failures_value, log_clauses_value, length_value, truth_value, class_names_value}
 use Rattle.command_parser.specs.Canonical.{generic_view}
-use Rattle.command_parser.specs.Fields.{front, behind, flag_in, id_in, authority_in, name_in, ids_in, level_in, audit_in, reset_in, whos_in, when_in, members_in, member_names_in, log_clauses_in, add_user_in, alt_user_in, add_group_in, alt_group_in, connect_in, remove_in}
+use Rattle.command_parser.specs.Fields.{front, behind, flag_in, id_in, authority_in, name_in, ids_in, level_in, audit_in, reset_in, whos_in, when_in, members_in, member_names_in, log_clauses_in, length_in, truth_in, class_names_in, add_user_in, alt_user_in, add_group_in, alt_group_in, connect_in, remove_in}
 use Rattle.command_parser.specs.OptionFields.{set_ropts_in}
-use Rattle.command_parser.specs.ProfileFields.{add_sd_in, alt_sd_in, r_define_in, r_alter_in, permit_in}
+use Rattle.command_parser.specs.ProfileFields.{add_sd_in, alt_sd_in, r_define_in, define_class_in, r_alter_in, alter_class_in, permit_in}
 use Rattle.command_parser.specs.CommandOf.{command_by, command_of}
 
 flag_in-value : (b : Bool) → flag_in (flag_value b) ≡ b
@@ -89,6 +92,18 @@ log_clauses_in-value : (xs : List LogClause) → log_clauses_in (log_clauses_val
 log_clauses_in-value [] = refl
 log_clauses_in-value (x ∷ xs) = refl
 
+length_in-value : (o : Option ℕ) → length_in (length_value o) ≡ o
+length_in-value None = refl
+length_in-value (Some x) = refl
+
+truth_in-value : (o : Option Bool) → truth_in (truth_value o) ≡ o
+truth_in-value None = refl
+truth_in-value (Some x) = refl
+
+class_names_in-value : (o : Option ClassNames) → class_names_in (class_names_value o) ≡ o
+class_names_in-value None = refl
+class_names_in-value (Some x) = refl
+
 -- a command is read back from its view
 pub command_of-generic : (c : CommandFields) → command_of (generic_view c) ≡ Some c
 unfolding command_of front behind
@@ -105,6 +120,8 @@ command_of-generic (fields.AltSd c) = simp (flag_in-value, id_in-value, ids_in-v
 command_of-generic (fields.DelSd c) = refl
 command_of-generic (fields.RDefine c) = simp (flag_in-value, id_in-value, ids_in-value, level_in-value, audit_in-value, members_in-value)
 command_of-generic (fields.RAlter c) = simp (flag_in-value, id_in-value, ids_in-value, level_in-value, audit_in-value, members_in-value, member_names_in-value)
+command_of-generic (fields.DefineClass c) = simp (id_in-value, length_in-value, truth_in-value, class_names_in-value)
+command_of-generic (fields.AlterClass c) = simp id_in-value
 command_of-generic (fields.RDelete c) = refl
 command_of-generic (fields.Permit c) = simp (flag_in-value, level_in-value, reset_in-value, whos_in-value, when_in-value)
 command_of-generic (fields.SetRopts c) = simp (flag_in-value, failures_in-value, ids_in-value, log_clauses_in-value)
@@ -132,6 +149,9 @@ again kinds.DroppedMembers s = member_names_value (member_names_in s)
 again kinds.Generic s = None
 again kinds.Failures s = failures_value (flag_in s)
 again kinds.LogOptions s = log_clauses_value (log_clauses_in s)
+again kinds.Length s = length_value (length_in s)
+again kinds.Truth s = truth_value (truth_in s)
+again kinds.ClassNames s = class_names_value (class_names_in s)
 
 again-none : (k : ValueKind) → again k None ≡ None
 unfolding again
@@ -156,6 +176,9 @@ again-none kinds.DroppedMembers = refl
 again-none kinds.Generic = refl
 again-none kinds.Failures = refl
 again-none kinds.LogOptions = refl
+again-none kinds.Length = refl
+again-none kinds.Truth = refl
+again-none kinds.ClassNames = refl
 
 again-some : (k : ValueKind) (v : Content) → Fits k v → again k (Some v) ≡ Some v
 unfolding again
@@ -182,6 +205,9 @@ again-some kinds.DroppedMembers (contents.MemberNames (x ∷ xs)) h = refl
 again-some kinds.Failures contents.Failures h = refl
 again-some kinds.LogOptions (contents.LogOptions []) h = absurd h.0
 again-some kinds.LogOptions (contents.LogOptions (x ∷ xs)) h = refl
+again-some kinds.Length (contents.Length n) h = refl
+again-some kinds.Truth (contents.Truth b) h = refl
+again-some kinds.ClassNames (contents.ClassNames n) h = refl
 again-some k v h = absurd h
 
 -- the same of all slots
@@ -270,70 +296,94 @@ class_given (None ∷ ss) v is fits = let no : let empty : Option Content = None
 class_given (Some (contents.Id w) ∷ ss) v is fits = (w, refl)
 class_given (Some u ∷ ss) v is fits = absurd fits.0
 
-viewed_by : (v : Verb) (words : List Content) (slots : Slots) → FitsPositions (positions_of v) words → FitsAll (operands_of v) slots → NamesClass v slots → IsViewed v words slots
+-- a class in which RDEFINE or RALTER has its own row is CDT
+own_class : (one other : Verb) → (one ≡ other → ⊥) → (c : List ℕ) → cond (bytes_eq c cdt) one other ≡ one → c ≡ cdt
+own_class one other differs c h = tested (bytes_eq c cdt) refl h
+  where
+    tested : (b : Bool) → bytes_eq c cdt ≡ b → cond b one other ≡ one → c ≡ cdt
+    tested true is h = (bytes_eq-Decides c cdt).0 is
+    tested false is h = absurd (differs (sym h))
+
+defined : (c : List ℕ) → in_class verbs.RDefine (Some c) ≡ verbs.DefineClass → c ≡ cdt
+defined c h = own_class verbs.DefineClass verbs.RDefine (λ same. cc) c h
+
+altered : (c : List ℕ) → in_class verbs.RAlter (Some c) ≡ verbs.AlterClass → c ≡ cdt
+altered c h = own_class verbs.AlterClass verbs.RAlter (λ same. cc) c h
+
+viewed_by : (v : Verb) (words : List Content) (slots : Slots) → FitsPositions (positions_of v) words → FitsAll (operands_of v) slots → NamesClass v slots → in_class (named_as v) (class_in_front words) ≡ v → IsViewed v words slots
 unfolding all_again again NamesClass
-viewed_by verbs.AddUser words slots at fits names =
+viewed_by verbs.AddUser words slots at fits names chosen =
     let w = is_user words at in
     viewed verbs.AddUser words (contents.Id w.0 ∷ []) slots w.1
     (record { command = fields.AddUser (add_user_in w.0 slots); read = refl; view = seen_again verbs.AddUser (contents.Id w.0 ∷ []) slots fits })
-viewed_by verbs.AltUser words slots at fits names =
+viewed_by verbs.AltUser words slots at fits names chosen =
     let w = is_user words at in
     viewed verbs.AltUser words (contents.Id w.0 ∷ []) slots w.1
     (record { command = fields.AltUser (alt_user_in w.0 slots); read = refl; view = seen_again verbs.AltUser (contents.Id w.0 ∷ []) slots fits })
-viewed_by verbs.DelUser words slots at fits names =
+viewed_by verbs.DelUser words slots at fits names chosen =
     let w = is_user words at in
     viewed verbs.DelUser words (contents.Id w.0 ∷ []) slots w.1
     (record { command = fields.DelUser (record { user = w.0 }); read = refl; view = seen_again verbs.DelUser (contents.Id w.0 ∷ []) slots fits })
-viewed_by verbs.AddGroup words slots at fits names =
+viewed_by verbs.AddGroup words slots at fits names chosen =
     let w = is_group words at in
     viewed verbs.AddGroup words (contents.Id w.0 ∷ []) slots w.1
     (record { command = fields.AddGroup (add_group_in w.0 slots); read = refl; view = seen_again verbs.AddGroup (contents.Id w.0 ∷ []) slots fits })
-viewed_by verbs.AltGroup words slots at fits names =
+viewed_by verbs.AltGroup words slots at fits names chosen =
     let w = is_group words at in
     viewed verbs.AltGroup words (contents.Id w.0 ∷ []) slots w.1
     (record { command = fields.AltGroup (alt_group_in w.0 slots); read = refl; view = seen_again verbs.AltGroup (contents.Id w.0 ∷ []) slots fits })
-viewed_by verbs.DelGroup words slots at fits names =
+viewed_by verbs.DelGroup words slots at fits names chosen =
     let w = is_group words at in
     viewed verbs.DelGroup words (contents.Id w.0 ∷ []) slots w.1
     (record { command = fields.DelGroup (record { group = w.0 }); read = refl; view = seen_again verbs.DelGroup (contents.Id w.0 ∷ []) slots fits })
-viewed_by verbs.Connect words slots at fits names =
+viewed_by verbs.Connect words slots at fits names chosen =
     let w = is_user words at in
     viewed verbs.Connect words (contents.Id w.0 ∷ []) slots w.1
     (record { command = fields.Connect (connect_in w.0 slots); read = refl; view = seen_again verbs.Connect (contents.Id w.0 ∷ []) slots fits })
-viewed_by verbs.Remove words slots at fits names =
+viewed_by verbs.Remove words slots at fits names chosen =
     let w = is_user words at in
     viewed verbs.Remove words (contents.Id w.0 ∷ []) slots w.1
     (record { command = fields.Remove (remove_in w.0 slots); read = refl; view = seen_again verbs.Remove (contents.Id w.0 ∷ []) slots fits })
-viewed_by verbs.AddSd words slots at fits names =
+viewed_by verbs.AddSd words slots at fits names chosen =
     let w = is_data_set words at in
     viewed verbs.AddSd words (contents.Profile w.0 ∷ []) slots w.1
     (record { command = fields.AddSd (add_sd_in w.0 slots); read = refl; view = seen_again verbs.AddSd (contents.Profile w.0 ∷ []) slots fits })
-viewed_by verbs.AltSd words slots at fits names =
+viewed_by verbs.AltSd words slots at fits names chosen =
     let w = is_data_set words at in
     viewed verbs.AltSd words (contents.Profile w.0 ∷ []) slots w.1
     (record { command = fields.AltSd (alt_sd_in w.0 slots); read = refl; view = seen_again verbs.AltSd (contents.Profile w.0 ∷ []) slots fits })
-viewed_by verbs.DelSd words slots at fits names =
+viewed_by verbs.DelSd words slots at fits names chosen =
     let w = is_data_set words at in
     viewed verbs.DelSd words (contents.Profile w.0 ∷ []) slots w.1
     (record { command = fields.DelSd (record { profile = w.0 }); read = refl; view = seen_again verbs.DelSd (contents.Profile w.0 ∷ []) slots fits })
-viewed_by verbs.RDefine words slots at fits names =
+viewed_by verbs.RDefine words slots at fits names chosen =
     let w = is_class_profile words at in
     viewed verbs.RDefine words (contents.Id w.0 ∷ contents.Profile w.1 ∷ []) slots w.2
     (record { command = fields.RDefine (r_define_in w.0 w.1 slots); read = refl; view = seen_again verbs.RDefine (contents.Id w.0 ∷ contents.Profile w.1 ∷ []) slots fits })
-viewed_by verbs.RAlter words slots at fits names =
+viewed_by verbs.RAlter words slots at fits names chosen =
     let w = is_class_profile words at in
     viewed verbs.RAlter words (contents.Id w.0 ∷ contents.Profile w.1 ∷ []) slots w.2
     (record { command = fields.RAlter (r_alter_in w.0 w.1 slots); read = refl; view = seen_again verbs.RAlter (contents.Id w.0 ∷ contents.Profile w.1 ∷ []) slots fits })
-viewed_by verbs.RDelete words slots at fits names =
+viewed_by verbs.DefineClass words slots at fits names chosen =
+    let w = is_class_profile words at in
+    let class : w.0 ≡ cdt = defined w.0 (ap (λ ws. in_class verbs.RDefine (class_in_front ws)) (sym w.2) ∙ chosen) in
+    viewed verbs.DefineClass words (contents.Id cdt ∷ contents.Profile w.1 ∷ []) slots (w.2 ∙ ap (λ c. contents.Id c ∷ contents.Profile w.1 ∷ []) class)
+    (record { command = fields.DefineClass (define_class_in w.1 slots); read = refl; view = seen_again verbs.DefineClass (contents.Id cdt ∷ contents.Profile w.1 ∷ []) slots fits })
+viewed_by verbs.AlterClass words slots at fits names chosen =
+    let w = is_class_profile words at in
+    let class : w.0 ≡ cdt = altered w.0 (ap (λ ws. in_class verbs.RAlter (class_in_front ws)) (sym w.2) ∙ chosen) in
+    viewed verbs.AlterClass words (contents.Id cdt ∷ contents.Profile w.1 ∷ []) slots (w.2 ∙ ap (λ c. contents.Id c ∷ contents.Profile w.1 ∷ []) class)
+    (record { command = fields.AlterClass (alter_class_in w.1 slots); read = refl; view = seen_again verbs.AlterClass (contents.Id cdt ∷ contents.Profile w.1 ∷ []) slots fits })
+viewed_by verbs.RDelete words slots at fits names chosen =
     let w = is_class_profile words at in
     viewed verbs.RDelete words (contents.Id w.0 ∷ contents.Profile w.1 ∷ []) slots w.2
     (record { command = fields.RDelete (record { class = w.0; profile = w.1 }); read = refl; view = seen_again verbs.RDelete (contents.Id w.0 ∷ contents.Profile w.1 ∷ []) slots fits })
-viewed_by verbs.Permit words slots at fits names =
+viewed_by verbs.Permit words slots at fits names chosen =
     let w = is_profile words at in
     let class = class_given slots names.0 names.1 fits in
     viewed verbs.Permit words (contents.Profile w.0 ∷ []) slots w.1 (permit_viewed w.0 class.0 slots class.1 fits)
-viewed_by verbs.SetRopts [] slots at fits names = record { command = fields.SetRopts (set_ropts_in slots); read = refl; view = seen_again verbs.SetRopts [] slots fits }
-viewed_by verbs.SetRopts (word ∷ words) slots at fits names = absurd at
+viewed_by verbs.SetRopts [] slots at fits names chosen = record { command = fields.SetRopts (set_ropts_in slots); read = refl; view = seen_again verbs.SetRopts [] slots fits }
+viewed_by verbs.SetRopts (word ∷ words) slots at fits names chosen = absurd at
 
 -- PERMIT's class is filled in where it isn't named
 first_some : (c : Bool) (v : Content) (xs ys zs : Slots) → cond c (Some v ∷ xs) (Some v ∷ ys) ≡ None ∷ zs → ⊥
@@ -356,7 +406,7 @@ names_class v slots fits whole = tt
 -- what a text can spell is the view of a command
 pub command_viewed : (g : Generic) → IsLawful g → (c : CommandFields) × (command_of g ≡ Some c) × (generic_view c ≡ g)
 unfolding command_of
-command_viewed g h = let v = viewed_by g.verb g.positions g.slots h.fits_positions h.fits_operands (names_class g.verb g.slots h.fits_operands h.complete) in (v.command, v.read, v.view)
+command_viewed g h = let v = viewed_by g.verb g.positions g.slots h.fits_positions h.fits_operands (names_class g.verb g.slots h.fits_operands h.complete) h.chosen in (v.command, v.read, v.view)
 
 pub no_command : (g : Generic) → IsLawful g → command_of g ≡ None → ⊥
 no_command g h none = let v = command_viewed g h in let is : command_of g ≡ Some v.0 = v.1 in cc

@@ -11,9 +11,9 @@ use Rattle.command_grammar.specs.Canon.{spelled}
 use Rattle.command_fields.specs.declared.fields.CommandFields.{CommandFields}
 use Rattle.command_fields.specs.declared.fields.CommandFields.TheVariants as fields
 use Rattle.command_parser.specs.Canonical.{given_by}
-use Rattle.command_parser.specs.Fields.{found_for, id_in, no_word, only_id, only_profile, class_and_profile, add_user_in, alt_user_in, add_group_in, alt_group_in, connect_in, remove_in}
+use Rattle.command_parser.specs.Fields.{found_for, id_in, no_word, only_id, only_profile, class_and_profile, cdt_profile, add_user_in, alt_user_in, add_group_in, alt_group_in, connect_in, remove_in}
 use Rattle.command_parser.specs.OptionFields.{set_ropts_in}
-use Rattle.command_parser.specs.ProfileFields.{add_sd_in, alt_sd_in, r_define_in, r_alter_in, permit_in}
+use Rattle.command_parser.specs.ProfileFields.{add_sd_in, alt_sd_in, r_define_in, define_class_in, r_alter_in, alter_class_in, permit_in}
 
 -- The command of each verb: its positional words must be those that it takes. PERMIT always names its class.
 abbrev pub command_by : Verb → List Content → Slots → Option CommandFields
@@ -30,6 +30,8 @@ command_by verbs.AltSd names slots = option_map (λ name. fields.AltSd (alt_sd_i
 command_by verbs.DelSd names slots = option_map (λ name. fields.DelSd (record { profile = name })) (only_profile names)
 command_by verbs.RDefine names slots = option_map (λ both. fields.RDefine (r_define_in both.0 both.1 slots)) (class_and_profile names)
 command_by verbs.RAlter names slots = option_map (λ both. fields.RAlter (r_alter_in both.0 both.1 slots)) (class_and_profile names)
+command_by verbs.DefineClass names slots = option_map (λ name. fields.DefineClass (define_class_in name slots)) (cdt_profile names)
+command_by verbs.AlterClass names slots = option_map (λ name. fields.AlterClass (alter_class_in name slots)) (cdt_profile names)
 command_by verbs.RDelete names slots = option_map (λ both. fields.RDelete (record { class = both.0; profile = both.1 })) (class_and_profile names)
 command_by verbs.Permit names slots = option_and_then (λ name. option_map (λ class. fields.Permit (permit_in name class slots)) (id_in (found_for verbs.Permit slots words.Class))) (only_profile names)
 command_by verbs.SetRopts names slots = option_map (λ none. fields.SetRopts (set_ropts_in slots)) (no_word names)

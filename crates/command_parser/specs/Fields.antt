@@ -1,5 +1,5 @@
 -- The commands on users and groups, each field read from the operand of its name.
-use Rattle.std.specs.Prelude.{ℕ, List, [], ◌∷◌, Bool, if◌then◌else◌, Option, None, Some, is_some}
+use Rattle.std.specs.Prelude.{ℕ, List, [], ◌∷◌, Bool, bytes_eq, if◌then◌else◌, Option, None, Some, is_some}
 use Rattle.access_levels.specs.declared.authorities.GroupAuthority.{GroupAuthority}
 use Rattle.access_levels.specs.declared.levels.Level.{Level}
 use Rattle.access_levels.specs.declared.entries.Who.{Who}
@@ -11,6 +11,8 @@ use Rattle.command_values.specs.declared.values.Content.{Content}
 use Rattle.command_values.specs.declared.values.Content.TheVariants as contents
 use Rattle.command_fields.specs.declared.resets.Reset.{Reset}
 use Rattle.command_fields.specs.declared.log_clauses.LogClause.{LogClause}
+use Rattle.command_fields.specs.declared.class_fields.ClassNames.{ClassNames}
+use Rattle.command_fields.specs.Classes.{cdt}
 use Rattle.command_fields.specs.declared.fields.AddUser.{AddUser}
 use Rattle.command_fields.specs.declared.fields.AltUser.{AltUser}
 use Rattle.command_fields.specs.declared.fields.AddGroup.{AddGroup}
@@ -96,6 +98,18 @@ abbrev pub log_clauses_in : Option Content → List LogClause
 log_clauses_in (Some (contents.LogOptions xs)) = xs
 log_clauses_in others = []
 
+abbrev pub length_in : Option Content → Option ℕ
+length_in (Some (contents.Length x)) = Some x
+length_in others = None
+
+abbrev pub truth_in : Option Content → Option Bool
+truth_in (Some (contents.Truth x)) = Some x
+truth_in others = None
+
+abbrev pub class_names_in : Option Content → Option ClassNames
+class_names_in (Some (contents.ClassNames x)) = Some x
+class_names_in others = None
+
 -- the positional words of a command: none, a name alone, a profile alone, a class and a profile
 abbrev pub no_word : List Content → Option (Unit {0})
 no_word [] = Some tt
@@ -112,6 +126,11 @@ only_profile others = None
 abbrev pub class_and_profile : List Content → Option ((List ℕ) × Spelled)
 class_and_profile (contents.Id class ∷ contents.Profile name ∷ []) = Some (class, name)
 class_and_profile others = None
+
+-- the profile of class CDT
+abbrev pub cdt_profile : List Content → Option Spelled
+cdt_profile (contents.Id class ∷ contents.Profile name ∷ []) = if bytes_eq class cdt then Some name else None
+cdt_profile others = None
 
 -- ADDUSER
 abbrev pub add_user_in : List ℕ → Slots → AddUser

@@ -24,6 +24,10 @@ use Rattle.command_fields.specs.declared.profile_fields.RDefine.{RDefine}
 use Rattle.command_fields.specs.declared.profile_fields.RAlter.{RAlter}
 use Rattle.command_fields.specs.declared.profile_fields.Permit.{Permit}
 use Rattle.command_fields.specs.declared.option_fields.SetRopts.{SetRopts}
+use Rattle.command_fields.specs.declared.class_fields.ClassNames.{ClassNames}
+use Rattle.command_fields.specs.declared.class_fields.DefineClass.{DefineClass}
+use Rattle.command_fields.specs.declared.class_fields.AlterClass.{AlterClass}
+use Rattle.command_fields.specs.Classes.{cdt}
 use Rattle.command_fields.specs.declared.fields.CommandFields.{CommandFields}
 use Rattle.command_fields.specs.declared.fields.CommandFields.TheVariants as command
 use Rattle.command_values.specs.declared.operand_words.Word.{Word}
@@ -90,6 +94,18 @@ failures_value false = None
 abbrev pub log_clauses_value : List LogClause → Option Content
 log_clauses_value [] = None
 log_clauses_value (clause ∷ clauses) = Some (contents.LogOptions (clause ∷ clauses))
+
+abbrev pub length_value : Option ℕ → Option Content
+length_value None = None
+length_value (Some length) = Some (contents.Length length)
+
+abbrev pub truth_value : Option Bool → Option Content
+truth_value None = None
+truth_value (Some truth) = Some (contents.Truth truth)
+
+abbrev pub class_names_value : Option ClassNames → Option Content
+class_names_value None = None
+class_names_value (Some names) = Some (contents.ClassNames names)
 
 -- an operand's word and its value, if the operand was given
 abbrev pub Given : Type 0
@@ -193,6 +209,17 @@ operands_of_r_define a =
     ∷ given words.Addcategory (ids_value a.addcategory) ∷ given words.Seclabel (id_value a.seclabel)
     ∷ given words.Addmem (members_value a.addmem) ∷ []
 
+-- RDEFINE in class CDT
+abbrev pub operands_of_define_class : DefineClass → List Given
+operands_of_define_class a =
+    given words.Owner (id_value a.owner) ∷ given words.Maxlength (length_value a.maxlength)
+    ∷ given words.Operations (truth_value a.operations) ∷ given words.Names (class_names_value a.names) ∷ []
+
+-- RALTER in class CDT
+abbrev pub operands_of_alter_class : AlterClass → List Given
+operands_of_alter_class a =
+    given words.Owner (id_value a.owner) ∷ []
+
 -- RALTER
 abbrev pub operands_of_r_alter : RAlter → List Given
 operands_of_r_alter a =
@@ -241,6 +268,8 @@ verb_of (command.AltSd a) = verbs.AltSd
 verb_of (command.DelSd a) = verbs.DelSd
 verb_of (command.RDefine a) = verbs.RDefine
 verb_of (command.RAlter a) = verbs.RAlter
+verb_of (command.DefineClass a) = verbs.DefineClass
+verb_of (command.AlterClass a) = verbs.AlterClass
 verb_of (command.RDelete a) = verbs.RDelete
 verb_of (command.Permit a) = verbs.Permit
 verb_of (command.SetRopts a) = verbs.SetRopts
@@ -259,6 +288,8 @@ names_of (command.AltSd a) = contents.Profile a.profile ∷ []
 names_of (command.DelSd a) = contents.Profile a.profile ∷ []
 names_of (command.RDefine a) = contents.Id a.class ∷ contents.Profile a.profile ∷ []
 names_of (command.RAlter a) = contents.Id a.class ∷ contents.Profile a.profile ∷ []
+names_of (command.DefineClass a) = contents.Id cdt ∷ contents.Profile a.profile ∷ []
+names_of (command.AlterClass a) = contents.Id cdt ∷ contents.Profile a.profile ∷ []
 names_of (command.RDelete a) = contents.Id a.class ∷ contents.Profile a.profile ∷ []
 names_of (command.Permit a) = contents.Profile a.profile ∷ []
 names_of (command.SetRopts a) = []
@@ -277,6 +308,8 @@ operands_of_command (command.AltSd a) = operands_of_alt_sd a
 operands_of_command (command.DelSd a) = operands_of_del_sd a
 operands_of_command (command.RDefine a) = operands_of_r_define a
 operands_of_command (command.RAlter a) = operands_of_r_alter a
+operands_of_command (command.DefineClass a) = operands_of_define_class a
+operands_of_command (command.AlterClass a) = operands_of_alter_class a
 operands_of_command (command.RDelete a) = []
 operands_of_command (command.Permit a) = operands_of_permit a
 operands_of_command (command.SetRopts a) = operands_of_set_ropts a

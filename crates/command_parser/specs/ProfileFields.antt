@@ -6,10 +6,12 @@ use Rattle.command_fields.specs.declared.profile_fields.AltSd.{AltSd}
 use Rattle.command_fields.specs.declared.profile_fields.RDefine.{RDefine}
 use Rattle.command_fields.specs.declared.profile_fields.RAlter.{RAlter}
 use Rattle.command_fields.specs.declared.profile_fields.Permit.{Permit}
+use Rattle.command_fields.specs.declared.class_fields.DefineClass.{DefineClass}
+use Rattle.command_fields.specs.declared.class_fields.AlterClass.{AlterClass}
 use Rattle.command_values.specs.declared.operand_words.Word.TheVariants as words
 use Rattle.command_grammar.specs.declared.table.Verb.TheVariants as verbs
 use Rattle.command_grammar.specs.Reading.{Slots}
-use Rattle.command_parser.specs.Fields.{found_for, flag_in, id_in, ids_in, level_in, audit_in, reset_in, whos_in, when_in, members_in, member_names_in}
+use Rattle.command_parser.specs.Fields.{found_for, flag_in, id_in, ids_in, level_in, audit_in, reset_in, whos_in, when_in, members_in, member_names_in, length_in, truth_in, class_names_in}
 
 -- ADDSD
 abbrev pub add_sd_in : Spelled → Slots → AddSd
@@ -57,6 +59,23 @@ r_define_in class profile slots = let operand = found_for verbs.RDefine slots in
   addcategory = ids_in (operand words.Addcategory);
   seclabel = id_in (operand words.Seclabel);
   addmem = members_in (operand words.Addmem);
+}
+
+-- RDEFINE in class CDT
+abbrev pub define_class_in : Spelled → Slots → DefineClass
+define_class_in profile slots = let operand = found_for verbs.DefineClass slots in record {
+  profile = profile;
+  owner = id_in (operand words.Owner);
+  maxlength = length_in (operand words.Maxlength);
+  operations = truth_in (operand words.Operations);
+  names = class_names_in (operand words.Names);
+}
+
+-- RALTER in class CDT
+abbrev pub alter_class_in : Spelled → Slots → AlterClass
+alter_class_in profile slots = let operand = found_for verbs.AlterClass slots in record {
+  profile = profile;
+  owner = id_in (operand words.Owner);
 }
 
 -- RALTER

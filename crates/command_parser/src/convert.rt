@@ -3,15 +3,17 @@
 ghost use Rattle.std.specs.Prelude.{◌≡◌};
 ghost use Rattle.command_grammar.specs.Lawful.{IsLawful};
 ghost use Rattle.command_grammar.specs.Parts.{generic};
-ghost use Rattle.command_parser.specs.Fields.{only_id as only_id_in, only_profile as only_profile_in, class_and_profile as class_and_profile_in, no_word as no_word_in};
+ghost use Rattle.command_parser.specs.Fields.{only_id as only_id_in, only_profile as only_profile_in, class_and_profile as class_and_profile_in, cdt_profile as cdt_profile_in, no_word as no_word_in};
 ghost use Rattle.command_parser.specs.CommandOf.{command_of};
 ghost use Rattle.command_parser.specs.Canonical.{generic_view};
 
 use crate::convert_options::set_ropts;
-use crate::convert_profiles::{add_sd, alt_sd, permit, r_alter, r_define};
+use crate::convert_profiles::{
+    add_sd, alt_sd, alter_class, define_class, permit, r_alter, r_define,
+};
 use crate::convert_users::{add_group, add_user, alt_group, alt_user, connect, remove};
 use access_levels::Id;
-use command_fields::{CommandFields, DelGroup, DelSd, DelUser, RDelete};
+use command_fields::{CommandFields, DelGroup, DelSd, DelUser, RDelete, is_cdt};
 use command_grammar::{Parts, Verb};
 use command_values::Content;
 use generic_names::Pattern;
@@ -48,6 +50,15 @@ fn class_and_profile(words: &[Content]) -> Option<(Id, Pattern)>
         [Content::Id(class), Content::Profile(name)] => Some((*class, *name.pattern())),
         _ => None,
     }
+}
+
+/// The profile of class CDT, where the positional words name one.
+#[inline(always)]
+fn cdt_profile(words: &[Content]) -> Option<Pattern>
+    ensures { result ≡ cdt_profile_in words.now }
+{
+    let (class, profile) = class_and_profile(words)?;
+    if is_cdt(class) { Some(profile) } else { None }
 }
 
 /// Nothing, where no positional word stands.
@@ -88,6 +99,8 @@ fn command_in_parts(alloc: Global, parts: Parts) -> Option<CommandFields>
         }),
         Verb::RDefine => CommandFields::RDefine(r_define(alloc, class_and_profile(words)?, slots)),
         Verb::RAlter => CommandFields::RAlter(r_alter(alloc, class_and_profile(words)?, slots)),
+        Verb::DefineClass => CommandFields::DefineClass(define_class(cdt_profile(words)?, slots)),
+        Verb::AlterClass => CommandFields::AlterClass(alter_class(cdt_profile(words)?, slots)),
         Verb::RDelete => {
             let (class, profile) = class_and_profile(words)?;
             CommandFields::RDelete(RDelete { class, profile })

@@ -5,11 +5,11 @@ ghost use Rattle.std.specs.Option.{option_map};
 ghost use Rattle.command_values.specs.declared.operand_words.Word.TheVariants as words;
 ghost use Rattle.command_grammar.specs.declared.table.Verb.TheVariants as verbs;
 ghost use Rattle.command_parser.specs.Fields.{found_for, id_in};
-ghost use Rattle.command_parser.specs.ProfileFields.{add_sd_in, alt_sd_in, r_define_in, r_alter_in, permit_in};
+ghost use Rattle.command_parser.specs.ProfileFields.{add_sd_in, alt_sd_in, r_define_in, define_class_in, r_alter_in, alter_class_in, permit_in};
 
 use crate::slots::Slots;
 use access_levels::Id;
-use command_fields::{AddSd, AltSd, Permit, RAlter, RDefine};
+use command_fields::{AddSd, AltSd, AlterClass, DefineClass, Permit, RAlter, RDefine};
 use command_values::Content;
 use generic_names::Pattern;
 use std::alloc::Global;
@@ -72,6 +72,31 @@ pub fn r_define(alloc: Global, names: (Id, Pattern), slots: Vec<Option<Content>>
         addcategory: slots.ids(alloc),
         seclabel: slots.id(),
         addmem: slots.members(alloc),
+    }
+}
+
+/// RDEFINE in class CDT, of whose operands these are the values.
+pub fn define_class(profile: Pattern, slots: Vec<Option<Content>>) -> DefineClass
+    ensures { result ≡ define_class_in profile slots.items }
+{
+    let mut slots = Slots::new(slots);
+    DefineClass {
+        profile,
+        owner: slots.id(),
+        maxlength: slots.length(),
+        operations: slots.truth(),
+        names: slots.class_names(),
+    }
+}
+
+/// RALTER in class CDT, of whose operands these are the values.
+pub fn alter_class(profile: Pattern, slots: Vec<Option<Content>>) -> AlterClass
+    ensures { result ≡ alter_class_in profile slots.items }
+{
+    let mut slots = Slots::new(slots);
+    AlterClass {
+        profile,
+        owner: slots.id(),
     }
 }
 

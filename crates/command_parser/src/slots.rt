@@ -1,10 +1,10 @@
 //! The values of a command's operands, taken one after another in the order of the table.
 
 ghost use Rattle.std.specs.Prelude.{◌≡◌};
-ghost use Rattle.command_parser.specs.Fields.{front, behind, flag_in, id_in, authority_in, name_in, ids_in, level_in, audit_in, reset_in, whos_in, when_in, members_in, member_names_in, log_clauses_in};
+ghost use Rattle.command_parser.specs.Fields.{front, behind, flag_in, id_in, authority_in, name_in, ids_in, level_in, audit_in, reset_in, whos_in, when_in, members_in, member_names_in, log_clauses_in, length_in, truth_in, class_names_in};
 
 use access_levels::{Condition, GroupAuthority, Id, Level, Text};
-use command_fields::{Ids, LogClauses, MemberNames, Reset, Whos};
+use command_fields::{ClassNames, Ids, LogClauses, MemberNames, Reset, Whos};
 use command_values::Content;
 use racf_profiles::{AuditRule, Members};
 use std::alloc::Global;
@@ -194,6 +194,42 @@ impl Slots {
             _ => LogClauses {
                 items: Vec::new(alloc),
             },
+        }
+    }
+
+    /// The length that is in front.
+    #[inline(always)]
+    pub fn length(&mut self) -> Option<u8>
+        ensures value { result ≡ length_in (front self.old) }
+        ensures rest { self.new ≡ behind self.old }
+    {
+        match self.take() {
+            Some(Content::Length(length)) => Some(length),
+            _ => None,
+        }
+    }
+
+    /// YES or NO in front.
+    #[inline(always)]
+    pub fn truth(&mut self) -> Option<bool>
+        ensures value { result ≡ truth_in (front self.old) }
+        ensures rest { self.new ≡ behind self.old }
+    {
+        match self.take() {
+            Some(Content::Truth(truth)) => Some(truth),
+            _ => None,
+        }
+    }
+
+    /// The value of NAMES that is in front.
+    #[inline(always)]
+    pub fn class_names(&mut self) -> Option<ClassNames>
+        ensures value { result ≡ class_names_in (front self.old) }
+        ensures rest { self.new ≡ behind self.old }
+    {
+        match self.take() {
+            Some(Content::ClassNames(names)) => Some(names),
+            _ => None,
         }
     }
 

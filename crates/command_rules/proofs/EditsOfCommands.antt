@@ -61,6 +61,8 @@ edits-others issuer (fields.AltSd c) rows other = alone-others dataset (altered_
 edits-others issuer (fields.DelSd c) rows other = refl
 edits-others issuer (fields.RDefine c) rows other = options-others c.addmem rows.options
 edits-others issuer (fields.RAlter c) rows other = changed-others c.class (altered_resource c rows) (profile_of c.class c.profile rows) c.addmem rows.options
+edits-others issuer (fields.DefineClass c) rows other = refl
+edits-others issuer (fields.AlterClass c) rows other = refl
 edits-others issuer (fields.RDelete c) rows other = refl
 edits-others issuer (fields.Permit c) rows other = alone-others c.class (permitted_profile c) (profile_of c.class c.profile rows)
 edits-others issuer (fields.SetRopts c) rows other = cc
@@ -108,6 +110,8 @@ module _ (rows : Rows) (lawful : AreClasses rows.classes) where
   edits-classes issuer (fields.DelSd c) after = (after, tt)
   edits-classes issuer (fields.RDefine c) after = profile-classes c.class (new_resource issuer c rows) c.addmem rows.options after
   edits-classes issuer (fields.RAlter c) after = changed-classes c.class (altered_resource c rows) (profile_of c.class c.profile rows) c.addmem rows.options after
+  edits-classes issuer (fields.DefineClass c) after = tt
+  edits-classes issuer (fields.AlterClass c) after = tt
   edits-classes issuer (fields.RDelete c) after = (after, tt)
   edits-classes issuer (fields.Permit c) after = alone-classes c.class (permitted_profile c) (profile_of c.class c.profile rows) after
   edits-classes issuer (fields.SetRopts c) after = set_ropts-classes c rows lawful

@@ -48,6 +48,8 @@ use Rattle.command_rules.specs.ProfileConflicts.{
   r_define_requirements,
   r_define_limits,
   r_alter_conflicts,
+  define_class_conflicts,
+  alter_class_conflicts,
   r_delete_conflicts,
   permit_conflicts,
 }
@@ -291,12 +293,14 @@ numbers_of (fields.AltSd c) = 1 ∷ 3 ∷ 16 ∷ 16 ∷ 16 ∷ 16 ∷ []
 numbers_of (fields.DelSd c) = 3 ∷ []
 numbers_of (fields.RDefine c) = 1 ∷ 4 ∷ 4 ∷ 5 ∷ 11 ∷ 16 ∷ 16 ∷ 16 ∷ 17 ∷ 17 ∷ 17 ∷ 17 ∷ []
 numbers_of (fields.RAlter c) = 1 ∷ 3 ∷ 4 ∷ 16 ∷ 16 ∷ 16 ∷ 16 ∷ 17 ∷ 17 ∷ []
+numbers_of (fields.DefineClass c) = 1 ∷ 4 ∷ []
+numbers_of (fields.AlterClass c) = 1 ∷ 3 ∷ 4 ∷ []
 numbers_of (fields.RDelete c) = 3 ∷ 4 ∷ []
 numbers_of (fields.Permit c) = 1 ∷ 3 ∷ 4 ∷ 17 ∷ 17 ∷ 17 ∷ []
 numbers_of (fields.SetRopts c) = 4 ∷ 4 ∷ 4 ∷ 4 ∷ 4 ∷ 4 ∷ 4 ∷ 4 ∷ 11 ∷ 12 ∷ 12 ∷ 13 ∷ 13 ∷ []
 
 are_numbered : (issuer : Issuer) (command : CommandFields) (rows : Rows) → AreNumbered (conflicts issuer command rows) (numbers_of command)
-unfolding add_user_conflicts alt_user_conflicts del_user_conflicts add_group_conflicts alt_group_conflicts del_group_conflicts connect_conflicts remove_conflicts add_sd_requirements add_sd_limits alt_sd_conflicts del_sd_conflicts r_define_requirements r_define_limits r_alter_conflicts r_delete_conflicts permit_conflicts set_ropts_conflicts
+unfolding add_user_conflicts alt_user_conflicts del_user_conflicts add_group_conflicts alt_group_conflicts del_group_conflicts connect_conflicts remove_conflicts add_sd_requirements add_sd_limits alt_sd_conflicts del_sd_conflicts r_define_requirements r_define_limits r_alter_conflicts define_class_conflicts alter_class_conflicts r_delete_conflicts permit_conflicts set_ropts_conflicts
 are_numbered issuer (fields.AddUser c) rows = (owner-number _ rows, (group-number _ rows, (class-number _ rows, (taken-number _ rows, (level-number _ rows, (category-number _ rows, (label-number _ rows, (users-number issuer _ rows, (user_full-number _, (connections-number issuer _ rows, tt))))))))))
 are_numbered issuer (fields.AltUser c) rows = (user-number _ rows, (owner-number _ rows, (named_group-number _ rows, (class-number _ rows, (class-number _ rows, (default_connected-number _ _ rows, (special-number issuer _ _ rows, (level-number _ rows, (category-number _ rows, (never-number _ rows, (label-number _ rows, tt)))))))))))
 are_numbered issuer (fields.DelUser c) rows = (user-number _ rows, (has_profile-number _ rows, (special-number issuer _ _ rows, tt)))
@@ -310,6 +314,8 @@ are_numbered issuer (fields.AltSd c) rows = (owner-number _ rows, (profile-numbe
 are_numbered issuer (fields.DelSd c) rows = (profile-number _ _ rows, tt)
 are_numbered issuer (fields.RDefine c) rows = (owner-number _ rows, (resource_class-number _ rows, (global_class-number _ _ rows, (profile_taken-number _ _ rows, (generic-number _ _, (level-number _ rows, (category-number _ rows, (label-number _ rows, (class_profiles-number issuer _ _ rows, (profiles-number issuer _ rows, (members-number issuer _ _ _ rows, (categories-number issuer _ rows, tt))))))))))))
 are_numbered issuer (fields.RAlter c) rows = (owner-number _ rows, (resource_profile-number _ _ rows, (resource_class-number _ rows, (level-number _ rows, (category-number _ rows, (never-number _ rows, (label-number _ rows, (members-number issuer _ _ _ rows, (categories-number issuer _ rows, tt)))))))))
+are_numbered issuer (fields.DefineClass c) rows = (owner-number _ rows, (resource_class-number _ rows, tt))
+are_numbered issuer (fields.AlterClass c) rows = (owner-number _ rows, (resource_profile-number _ _ rows, (resource_class-number _ rows, tt)))
 are_numbered issuer (fields.RDelete c) rows = (resource_profile-number _ _ rows, (resource_class-number _ rows, tt))
 are_numbered issuer (fields.Permit c) rows = (permitted-number _ _ rows, (profile-number _ _ rows, (such_class-number _ rows, (standard-number issuer _ rows, (conditional-number issuer _ rows, (entries-number issuer _ rows, tt))))))
 are_numbered issuer (fields.SetRopts c) rows = (absent-number _ rows, (absent-number _ rows, (absent-number _ rows, (absent-number _ rows, (absent-number _ rows, (absent-number _ rows, (absent-number _ rows, (absent-number _ rows, (without_generic-number _, (unlisted-number _ rows, (unlisted-number _ rows, (always_active-number _, (never_listed-number _, tt)))))))))))))
@@ -328,6 +334,8 @@ sorted (fields.AltSd c) = refl
 sorted (fields.DelSd c) = refl
 sorted (fields.RDefine c) = refl
 sorted (fields.RAlter c) = refl
+sorted (fields.DefineClass c) = refl
+sorted (fields.AlterClass c) = refl
 sorted (fields.RDelete c) = refl
 sorted (fields.Permit c) = refl
 sorted (fields.SetRopts c) = refl

@@ -30,7 +30,7 @@ use Rattle.racf_profiles.specs.Names.{is_connected_to, connects_of, special_user
 use Rattle.command_rules.specs.Effects.{group_or_current, new_user, new_group, altered_group, connects_after, step}
 use Rattle.command_rules.specs.Numbers.{met, is_early}
 use Rattle.command_rules.specs.OptionConflicts.{set_ropts_conflicts}
-use Rattle.command_rules.specs.ProfileConflicts.{add_sd_conflicts, alt_sd_conflicts, del_sd_conflicts, r_define_conflicts, r_alter_conflicts, r_delete_conflicts, permit_conflicts}
+use Rattle.command_rules.specs.ProfileConflicts.{add_sd_conflicts, alt_sd_conflicts, del_sd_conflicts, r_define_conflicts, r_alter_conflicts, define_class_conflicts, alter_class_conflicts, r_delete_conflicts, permit_conflicts}
 unfoldable pub use Rattle.command_rules.specs.Required.{no_user, no_group, no_owner, no_named_group, no_class, name_taken, not_connected, default_not_connected, unknown_level, unknown_category, never_category, unknown_label}
 pub use Rattle.command_rules.specs.Required.{if_met, first_met, over}
 
@@ -199,6 +199,8 @@ conflicts issuer (fields.AltSd c) rows = alt_sd_conflicts c rows
 conflicts issuer (fields.DelSd c) rows = del_sd_conflicts c rows
 conflicts issuer (fields.RDefine c) rows = r_define_conflicts issuer c rows
 conflicts issuer (fields.RAlter c) rows = r_alter_conflicts issuer c rows
+conflicts issuer (fields.DefineClass c) rows = define_class_conflicts c rows
+conflicts issuer (fields.AlterClass c) rows = alter_class_conflicts c rows
 conflicts issuer (fields.RDelete c) rows = r_delete_conflicts c rows
 conflicts issuer (fields.Permit c) rows = permit_conflicts issuer c rows
 conflicts issuer (fields.SetRopts c) rows = set_ropts_conflicts c rows

@@ -23,6 +23,9 @@ use Rattle.command_fields.specs.declared.profile_fields.DelSd.{DelSd}
 use Rattle.command_fields.specs.declared.profile_fields.RDefine.{RDefine}
 use Rattle.command_fields.specs.declared.profile_fields.RAlter.{RAlter}
 use Rattle.command_fields.specs.declared.profile_fields.RDelete.{RDelete}
+use Rattle.command_fields.specs.declared.class_fields.DefineClass.{DefineClass}
+use Rattle.command_fields.specs.declared.class_fields.AlterClass.{AlterClass}
+use Rattle.command_fields.specs.Classes.{cdt}
 use Rattle.command_fields.specs.declared.profile_fields.Permit.{Permit}
 use Rattle.command_rules.specs.declared.conflict.Conflict.{Conflict}
 use Rattle.command_rules.specs.declared.conflict.Conflict.TheVariants.{NoUser, NoProfile, NoClass, Exists, NotGeneric}
@@ -199,6 +202,13 @@ r_alter_conflicts issuer c rows =
     ∷ members_full issuer (fields.RAlter c) c.class c.profile rows
     ∷ categories_full issuer (fields.RAlter c) rows
     ∷ []
+
+-- RDEFINE and RALTER in class CDT. The class table of this product has no CDT yet, so they are refused.
+unfoldable pub define_class_conflicts : DefineClass → Rows → List (Option Conflict)
+define_class_conflicts c rows = no_owner c.owner rows ∷ no_resource_class cdt rows ∷ []
+
+unfoldable pub alter_class_conflicts : AlterClass → Rows → List (Option Conflict)
+alter_class_conflicts c rows = no_owner c.owner rows ∷ no_resource_profile cdt c.profile rows ∷ no_resource_class cdt rows ∷ []
 
 unfoldable pub r_delete_conflicts : RDelete → Rows → List (Option Conflict)
 r_delete_conflicts c rows = no_resource_profile c.class c.profile rows ∷ no_resource_class c.class rows ∷ []

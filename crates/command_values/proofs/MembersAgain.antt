@@ -151,10 +151,10 @@ unfolding all_below
 below f zero n h less = absurd (omega arith)
 below f (suc k) n h less = below-one f k n (n == k) refl less (and_parts (f k) (all_below f k) h).0 (below f k n (and_parts (f k) (all_below f k) h).1)
 
-record IsNumberText (n : ℕ) : Type 0 where
-  sound : list_all is_sound_byte (number_text n) ≡ true
-  whole : parted (number_text n) ≡ None
-  back : number_of (number_text n) ≡ Some n
+pub record IsNumberText (n : ℕ) : Type 0 where
+  pub sound : list_all is_sound_byte (number_text n) ≡ true
+  pub whole : parted (number_text n) ≡ None
+  pub back : number_of (number_text n) ≡ Some n
 
 range-true : (n : ℕ) → if_number (Some n) ≡ Some n → (nat_le 1 n && nat_le n 254) ≡ true
 range-true n h = range-one (nat_le 1 n && nat_le n 254) refl h
@@ -175,7 +175,7 @@ that-so : (o : Option ℕ) (n : ℕ) → is_that o n ≡ true → o ≡ Some n
 that-so None n h = cc
 that-so (Some m) n h = ap Some (eqb-true m n h)
 
-number-text : (n : ℕ) → if_number (Some n) ≡ Some n → IsNumberText n
+pub number-text : (n : ℕ) → if_number (Some n) ≡ Some n → IsNumberText n
 unfolding number_tested
 number-text n h =
     let ranged : (nat_le 1 n && nat_le n 254) ≡ true = range-true n h in

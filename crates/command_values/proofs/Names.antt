@@ -95,6 +95,9 @@ name-id kinds.DroppedMembers w x h = cc
 name-id kinds.Generic w x h = cc
 name-id kinds.Failures w x h = cc
 name-id kinds.LogOptions w x h = cc
+name-id kinds.Length w x h = cc
+name-id kinds.Truth w x h = cc
+name-id kinds.ClassNames w x h = cc
 
 pub all_of : (p q : ℕ → Bool) → ((b : ℕ) → p b ≡ true → q b ≡ true) → (w : List ℕ) → list_all p w ≡ true → list_all q w ≡ true
 all_of p q implies [] h = refl
@@ -156,6 +159,9 @@ name_folded kinds.DroppedMembers v w h = refl
 name_folded kinds.Generic v w h = refl
 name_folded kinds.Failures v w h = refl
 name_folded kinds.LogOptions v w h = refl
+name_folded kinds.Length v w h = refl
+name_folded kinds.Truth v w h = refl
+name_folded kinds.ClassNames v w h = refl
 
 -- a name that was read reads as itself
 pub name-again : (k : ValueKind) (w x : List ℕ) → name_of k w ≡ Some x → name_of k x ≡ Some x

@@ -1,9 +1,10 @@
 -- A value that was written is read again, whatever follows its parenthesis.
-use Rattle.std.proofs.Common.{◌≡◌, ℕ, suc, ◌+◌, List, [], ◌∷◌, ◌++◌, length, map, Bool, true, false, None, Some, Ok, refl, sym, ap, subst, ◌∙◌, append_assoc}
-use Rattle.std.specs.Prelude.{◌==◌, bytes_eq, codes}
+use Rattle.std.proofs.Common.{◌≡◌, ℕ, suc, ◌+◌, List, [], ◌∷◌, ◌++◌, length, map, Bool, true, false, cond, None, Some, Ok, refl, sym, ap, subst, ◌∙◌, append_assoc, arith}
+use Rattle.std.specs.Prelude.{◌==◌, nat_le, bytes_eq, codes}
 use Rattle.std.specs.List.{list_all}
 use Rattle.std.proofs.lemmas.List.{append-nil}
-use Rattle.std.proofs.lemmas.Bool.{eqb-true}
+use Rattle.std.proofs.lemmas.Bool.{eqb-true, and_parts}
+use Rattle.std.proofs.lemmas.Bool.Decides.{nat_tests}
 use Rattle.std.proofs.lemmas.Slice.Eq.{bytes_eq-Decides}
 use Rattle.access_levels.specs.declared.entries.Who.{Who}
 use Rattle.access_levels.specs.declared.entries.Who.TheVariants.{Star, Named}
@@ -17,7 +18,7 @@ use Rattle.command_words.specs.declared.quoting.Quoting.TheVariants.{Ignored, Ou
 use Rattle.command_words.specs.Quotes.{doubled}
 use Rattle.command_words.specs.Tokens.{within, group_end, tokens, tokens_from}
 use Rattle.command_words.specs.ValuedWords.{ValuedWord, Alone, valued_words, faulty_at}
-use Rattle.command_words.proofs.Letters.{Outside-steady}
+use Rattle.command_words.proofs.Letters.{is_letter, Outside-steady}
 use Rattle.command_words.proofs.Spelled.{is_calm, quoted, word_token, word_alone, quoted_token, group_end-calm, group_end-quoted, calm-letters}
 use Rattle.command_values.specs.declared.value_kinds.ValueKind.{ValueKind}
 use Rattle.command_values.specs.declared.value_kinds.ValueKind.TheVariants as kinds
@@ -26,8 +27,13 @@ use Rattle.command_values.specs.declared.values.Content.TheVariants as contents
 use Rattle.command_values.specs.declared.values.Scope.{Scope}
 use Rattle.command_fields.specs.declared.resets.Reset.{Reset}
 use Rattle.command_fields.specs.declared.resets.Reset.TheVariants as resets
-use Rattle.command_values.specs.Results.{◌>>=◌}
-use Rattle.command_values.specs.Values.{name_of, if_name, unquoted, name_text, single, names, several, whos, value, more_text, ids_text, text_of}
+use Rattle.command_values.specs.declared.faults.Syntax.TheVariants as faults
+use Rattle.command_fields.specs.declared.class_fields.ClassNames.{ClassNames}
+use Rattle.command_fields.specs.declared.class_fields.ClassNames.TheVariants as class_names
+use Rattle.command_fields.specs.Classes.{class_names_name, is_longest}
+use Rattle.command_values.specs.Members.{number_of, number_text}
+use Rattle.command_values.specs.Results.{◌>>=◌, or_fault}
+use Rattle.command_values.specs.Values.{name_of, if_name, unquoted, name_text, if_longest, truth_name, single, names, several, whos, value, more_text, ids_text, text_of}
 use Rattle.command_fields.specs.UserNames.{is_name}
 use Rattle.command_fields.specs.Resets.{reset_name}
 use Rattle.command_values.specs.LawfulValues.{AreNames, IsNonEmpty, AreWhos, Fits, Suits}
@@ -38,7 +44,8 @@ use Rattle.command_values.proofs.LogOptionsAgain.{log_clauses_again, log_clauses
 use Rattle.command_values.specs.Entries.{whos_text}
 use Rattle.command_values.specs.declared.values.Known.{Known}
 use Rattle.command_fields.specs.MemberForms.{member_form}
-use Rattle.command_values.proofs.MembersAgain.{added_again, dropped_again, added_end, dropped_end}
+use Rattle.command_values.proofs.Patterns.{IsSome, sound-letters, sound-faultless}
+use Rattle.command_values.proofs.MembersAgain.{IsNumberText, number-text, added_again, dropped_again, added_end, dropped_end}
 use Rattle.command_values.proofs.EntriesAgain.{listed, port_again, port_ends}
 use Rattle.command_values.proofs.AuditAgain.{level_calm, audit_again, audit_ends}
 
@@ -91,6 +98,41 @@ single_authority at p q MayUse = refl
 single_authority at p q MayCreate = refl
 single_authority at p q MayConnect = refl
 single_authority at p q MayJoin = refl
+
+-- a value of one word of letters and digits
+word_item : (q : ℕ) (w : List ℕ) → IsSome w → list_all is_letter w ≡ true → valued_words (tokens (within q w)) ≡ Alone (suc q) w ∷ []
+unfolding tokens
+word_item q [] some letters = absurd some
+word_item q (b ∷ w) some letters = ap valued_words (word_alone Outside Outside-steady false (suc q) b w letters)
+
+number-some : (w : List ℕ) (n : ℕ) → number_of w ≡ Some n → IsSome w
+number-some [] n h = cc
+number-some (b ∷ w) n h = tt
+
+length_text : (n : ℕ) → is_longest n ≡ true → IsNumberText n
+length_text n h =
+    let low : nat_le 1 n ≡ true = (and_parts (nat_le 1 n) (nat_le n 246) h).0 in
+    let high : nat_le n 246 ≡ true = (and_parts (nat_le 1 n) (nat_le n 246) h).1 in
+    let below : nat_le n 254 ≡ true = grind (arith, nat_tests) in
+    number-text n (rw (low, below) refl)
+
+single_length : (at : Scope) (p q n : ℕ) → is_longest n ≡ true → single at kinds.Length p (valued_words (tokens (within q (number_text n)))) ≡ Ok (contents.Length n)
+single_length at p q n h =
+    let number = length_text n h in
+    let item : valued_words (tokens (within q (number_text n))) ≡ Alone (suc q) (number_text n) ∷ [] = word_item q (number_text n) (number-some (number_text n) n number.back) (sound-letters (number_text n) number.sound) in
+    let sound : faulty_at Ignored (suc q) (number_text n) ≡ None = sound-faultless (suc q) (number_text n) number.sound in
+    let read : or_fault (if_longest (number_of (number_text n))) (faults.BadValue (suc q)) ≡ Ok n = ap (λ o. or_fault (if_longest o) (faults.BadValue (suc q))) number.back ∙ ap (λ c. or_fault (cond c (Some n) None) (faults.BadValue (suc q))) h in
+    rw (item, sound, read) refl
+
+single_truth : (at : Scope) (p q : ℕ) (b : Bool) → single at kinds.Truth p (valued_words (tokens (within q (truth_name b)))) ≡ Ok (contents.Truth b)
+unfolding tokens
+single_truth at p q true = refl
+single_truth at p q false = refl
+
+single_class_names : (at : Scope) (p q : ℕ) (n : ClassNames) → single at kinds.ClassNames p (valued_words (tokens (within q (class_names_name n)))) ≡ Ok (contents.ClassNames n)
+unfolding tokens
+single_class_names at p q class_names.Full = refl
+single_class_names at p q class_names.Id = refl
 
 -- the text of a name, between its quotes
 unquoted-one : (front t : List ℕ) (b : ℕ) (c : Bool) → (b == 39) ≡ c
@@ -179,6 +221,9 @@ IsShown (contents.MemberNames ns) = Unit {0}
 IsShown (contents.Generic g) = Unit {0}
 IsShown contents.Failures = Unit {0}
 IsShown (contents.LogOptions cs) = Unit {0}
+IsShown (contents.Length n) = Unit {0}
+IsShown (contents.Truth b) = Unit {0}
+IsShown (contents.ClassNames n) = Unit {0}
 
 pub value-again : (at : Scope) (k : ValueKind) (p q : ℕ) (v : Content) → Fits k v → IsShown v → Suits at.known k v → value at k p (valued_words (tokens (within q (text_of v)))) ≡ Ok v
 value-again at kinds.Flag p q contents.Flag h shown suits = absurd shown
@@ -201,6 +246,9 @@ value-again at kinds.AddedMembers p q (contents.Members ms) h shown suits = ap (
 value-again at kinds.DroppedMembers p q (contents.MemberNames ns) h shown suits = ap (λ r. r >>= λ ns. Ok (contents.MemberNames ns)) (dropped_again (member_form at.known.class at.known.profile) p q ns h suits)
 value-again at kinds.Failures p q contents.Failures h shown suits = single_failures at p q
 value-again at kinds.LogOptions p q (contents.LogOptions cs) h shown suits = ap (λ r. r >>= λ cs. Ok (contents.LogOptions cs)) (log_clauses_again p q cs h)
+value-again at kinds.Length p q (contents.Length n) h shown suits = single_length at p q n h
+value-again at kinds.Truth p q (contents.Truth b) h shown suits = single_truth at p q b
+value-again at kinds.ClassNames p q (contents.ClassNames n) h shown suits = single_class_names at p q n
 value-again at k p q v h shown suits = absurd h
 
 -- where the parenthesis of a value that was written closes
@@ -223,6 +271,14 @@ reset_calm resets.All = refl
 reset_calm resets.Standard = refl
 reset_calm resets.When = refl
 
+truth_calm : (b : Bool) → list_all is_calm (truth_name b) ≡ true
+truth_calm true = refl
+truth_calm false = refl
+
+class_names_calm : (n : ClassNames) → list_all is_calm (class_names_name n) ≡ true
+class_names_calm class_names.Full = refl
+class_names_calm class_names.Id = refl
+
 pub value-ends : (known : Known) (k : ValueKind) (v : Content) (outer p : ℕ) (rest : List ℕ) → Fits k v → IsShown v → Suits known k v → group_end outer Outside 0 p (text_of v ++ 41 ∷ rest) ≡ Ok (p + length (text_of v))
 value-ends known kinds.Flag contents.Flag outer p rest h shown suits = absurd shown
 value-ends known kinds.Id (contents.Id w) outer p rest h shown suits = group_end-calm outer p w rest (calm-letters w (name-plain kinds.Id w w h).letters)
@@ -244,4 +300,7 @@ value-ends known kinds.AddedMembers (contents.Members ms) outer p rest h shown s
 value-ends known kinds.DroppedMembers (contents.MemberNames ns) outer p rest h shown suits = dropped_end (member_form known.class known.profile) outer p ns rest h suits
 value-ends known kinds.Failures contents.Failures outer p rest h shown suits = group_end-calm outer p (codes "FAILURES") rest refl
 value-ends known kinds.LogOptions (contents.LogOptions cs) outer p rest h shown suits = log_clauses_end outer p cs rest h
+value-ends known kinds.Length (contents.Length n) outer p rest h shown suits = group_end-calm outer p (number_text n) rest (calm-letters (number_text n) (sound-letters (number_text n) (length_text n h).sound))
+value-ends known kinds.Truth (contents.Truth b) outer p rest h shown suits = group_end-calm outer p (truth_name b) rest (truth_calm b)
+value-ends known kinds.ClassNames (contents.ClassNames n) outer p rest h shown suits = group_end-calm outer p (class_names_name n) rest (class_names_calm n)
 value-ends known k v outer p rest h shown suits = absurd h

@@ -21,12 +21,13 @@ use Rattle.command_values.specs.declared.values.Known.{Known}
 use Rattle.command_values.specs.Results.{◌>>=◌, or_fault}
 use Rattle.command_values.specs.WordsOfValues.{clean, word_of, stray, held, unless_stray}
 use Rattle.command_fields.specs.ProfileNames.{dataset_profile, class_profile, dataset_text, profile_of_text, dataset_named}
-use Rattle.command_values.specs.Members.{added, dropped}
+use Rattle.command_values.specs.Members.{added, dropped, number_of}
 use Rattle.command_fields.specs.MemberForms.{member_form}
 use Rattle.command_values.specs.Entries.{port_name, port_of, port}
 use Rattle.command_values.specs.Audits.{audit_rule}
-use Rattle.command_values.specs.Values.{name_of, if_name, unquoted, name_text, reset_of, star_or, whos, one, quotes_of, single, names, some_names, several, failures_of, log_clauses, value}
+use Rattle.command_values.specs.Values.{name_of, if_name, unquoted, name_text, reset_of, star_or, whos, one, quotes_of, single, names, some_names, several, failures_of, if_longest, truth_of, class_names_of, log_clauses, value}
 use Rattle.command_fields.specs.UserNames.{is_name}
+use Rattle.command_fields.specs.Classes.{is_longest}
 use Rattle.command_values.specs.LawfulValues.{AreNames, IsNonEmpty, Fits, AreNamed, AreWhos, Suits}
 use Rattle.command_values.proofs.Names.{name-again}
 use Rattle.command_values.proofs.Patterns.{dataset-named, class-named}
@@ -73,6 +74,14 @@ failures-some w v h = failures-one (bytes_eq w (codes "FAILURES")) h
     failures-one true h = cc
     failures-one false h = cc
 
+longest-fits : (o : Option ℕ) (k : ℕ) → if_longest o ≡ Some k → is_longest k ≡ true
+longest-fits None k h = cc
+longest-fits (Some n) k h = longest-one (is_longest n) refl h
+  where
+    longest-one : (c : Bool) → is_longest n ≡ c → cond c (Some n) None ≡ Some k → is_longest k ≡ true
+    longest-one true is h = let same : n ≡ k = cc in subst (λ (m : ℕ). is_longest m ≡ true) same is
+    longest-one false is h = cc
+
 pub one-fits : (at : Scope) (k : ValueKind) (p : ℕ) (w : List ℕ) (v : Content) → one at k p w ≡ Ok v → FitsHere at.known k v
 one-fits at kinds.Id p w v h =
     let read = bind-ok (or_fault (name_of kinds.Id w) (faults.BadValue p)) (λ x. Ok (contents.Id x)) v h in
@@ -113,6 +122,18 @@ one-fits at kinds.ClassProfile p w v h =
     along-here at.known kinds.ClassProfile (contents.Profile read.0) v same (tt, ap (class_profile at.known.class) (class-named at.known.class (map upper w) read.0 named).text ∙ named)
 one-fits at kinds.Failures p w v h =
     along-here at.known kinds.Failures contents.Failures v (failures-some (map upper w) v (or_fault-ok (failures_of (map upper w)) (faults.BadValue p) v h)) (tt, tt)
+one-fits at kinds.Length p w v h =
+    let read = bind-ok (or_fault (if_longest (number_of w)) (faults.BadValue p)) (λ n. Ok (contents.Length n)) v h in
+    let same : contents.Length read.0 ≡ v = cc in
+    along-here at.known kinds.Length (contents.Length read.0) v same (longest-fits (number_of w) read.0 (or_fault-ok (if_longest (number_of w)) (faults.BadValue p) read.0 read.1), tt)
+one-fits at kinds.Truth p w v h =
+    let read = bind-ok (or_fault (truth_of (map upper w)) (faults.BadValue p)) (λ b. Ok (contents.Truth b)) v h in
+    let same : contents.Truth read.0 ≡ v = cc in
+    along-here at.known kinds.Truth (contents.Truth read.0) v same (tt, tt)
+one-fits at kinds.ClassNames p w v h =
+    let read = bind-ok (or_fault (class_names_of (map upper w)) (faults.BadValue p)) (λ n. Ok (contents.ClassNames n)) v h in
+    let same : contents.ClassNames read.0 ≡ v = cc in
+    along-here at.known kinds.ClassNames (contents.ClassNames read.0) v same (tt, tt)
 one-fits at kinds.LogOptions p w v h = cc
 one-fits at kinds.Flag p w v h = cc
 one-fits at kinds.Ids p w v h = cc
@@ -222,6 +243,9 @@ value-fits at kinds.LogOptions p is v h =
     let read = bind-ok (log_clauses p is) (λ cs. Ok (contents.LogOptions cs)) v h in
     let same : contents.LogOptions read.0 ≡ v = cc in
     along-here at.known kinds.LogOptions (contents.LogOptions read.0) v same (log_clauses-fit p is read.0 read.1, tt)
+value-fits at kinds.Length p is v h = single-fits at kinds.Length p is v h
+value-fits at kinds.Truth p is v h = single-fits at kinds.Truth p is v h
+value-fits at kinds.ClassNames p is v h = single-fits at kinds.ClassNames p is v h
 value-fits at kinds.Flag p is v h = cc
 value-fits at kinds.DataSetProfile p is v h = cc
 value-fits at kinds.ClassProfile p is v h = cc

@@ -9,6 +9,7 @@ use Rattle.command_values.specs.declared.values.Content.TheVariants as contents
 use Rattle.command_values.specs.declared.values.Known.{Known}
 use Rattle.command_fields.specs.ProfileNames.{dataset_profile, class_profile, any_profile}
 use Rattle.command_fields.specs.AuditRules.{is_audit_rule}
+use Rattle.command_fields.specs.Classes.{is_longest}
 use Rattle.command_fields.specs.MemberForms.{member_form}
 use Rattle.command_fields.specs.LawfulMembers.{Each, AreMembers, AreDropped}
 use Rattle.command_values.specs.Values.{name_of}
@@ -70,6 +71,9 @@ Fits kinds.AddedMembers (contents.Members ms) = AreSome ms
 Fits kinds.DroppedMembers (contents.MemberNames ns) = AreSome ns
 Fits kinds.Failures contents.Failures = Unit {0}
 Fits kinds.LogOptions (contents.LogOptions cs) = AreClauses cs
+Fits kinds.Length (contents.Length n) = is_longest n ≡ true
+Fits kinds.Truth (contents.Truth b) = Unit {0}
+Fits kinds.ClassNames (contents.ClassNames n) = Unit {0}
 Fits k v = ⊥
 
 -- A value that depends on the words in front: the name of a profile on its class, its members on both.

@@ -60,6 +60,8 @@ spelling_of words.Global = codes "GLOBAL"
 spelling_of words.Noglobal = codes "NOGLOBAL"
 spelling_of words.Refresh = codes "REFRESH"
 spelling_of words.Logoptions = codes "LOGOPTIONS"
+spelling_of words.Maxlength = codes "MAXLENGTH"
+spelling_of words.Names = codes "NAMES"
 
 -- Two words are one where they are spelled alike.
 abbrev pub same_word : Word → Word → Bool

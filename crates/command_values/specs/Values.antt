@@ -24,8 +24,11 @@ use Rattle.command_values.specs.WordsOfValues.{clean, refused_at, word_of, stray
 use Rattle.command_fields.specs.ProfileNames.{dataset_named, class_profile, profile_text}
 use Rattle.command_fields.specs.UserNames.{is_name}
 use Rattle.command_fields.specs.Resets.{reset_name}
+use Rattle.command_fields.specs.declared.class_fields.ClassNames.{ClassNames}
+use Rattle.command_fields.specs.declared.class_fields.ClassNames.TheVariants as class_names
+use Rattle.command_fields.specs.Classes.{class_names_name, is_longest}
 use Rattle.command_values.specs.Audits.{audit_rule, audit_text}
-use Rattle.command_values.specs.Members.{added, dropped, member_text}
+use Rattle.command_values.specs.Members.{added, dropped, number_of, number_text, member_text}
 use Rattle.command_fields.specs.MemberForms.{member_form}
 use Rattle.command_values.specs.Entries.{whos_text, port, port_text}
 use Rattle.command_fields.specs.declared.log_clauses.LogClause.{LogClause}
@@ -74,6 +77,23 @@ reset_of w = find (λ r. bytes_eq w (reset_name r)) all_resets
 abbrev pub failures_of : List ℕ → Option Content
 failures_of w = if bytes_eq w (codes "FAILURES") then Some contents.Failures else None
 
+-- MAXLENGTH holds a number that a length can be, without a zero in front.
+abbrev pub if_longest : Option ℕ → Option ℕ
+if_longest None = None
+if_longest (Some n) = if is_longest n then Some n else None
+
+-- OPERATIONS of a class holds YES or NO.
+abbrev pub truth_name : Bool → List ℕ
+truth_name true = codes "YES"
+truth_name false = codes "NO"
+
+abbrev pub truth_of : List ℕ → Option Bool
+truth_of w = find (λ b. bytes_eq w (truth_name b)) (true ∷ false ∷ [])
+
+-- NAMES holds FULL or ID.
+abbrev pub class_names_of : List ℕ → Option ClassNames
+class_names_of w = find (λ n. bytes_eq w (class_names_name n)) (class_names.Full ∷ class_names.Id ∷ [])
+
 -- the value that the word at place p is
 abbrev pub one : Scope → ValueKind → ℕ → List ℕ → Result Content Syntax
 one at kinds.Id p w = or_fault (name_of kinds.Id w) (faults.BadValue p) >>= λ x. Ok (contents.Id x)
@@ -86,6 +106,9 @@ one at kinds.DataSetProfile p w = or_fault (dataset_named at.issuer w) (faults.B
 one at kinds.ClassProfile p w = or_fault (class_profile at.known.class (map upper w)) (faults.BadValue p) >>= λ n. Ok (contents.Profile n)
 one at kinds.Reset p w = or_fault (reset_of (map upper w)) (faults.BadValue p) >>= λ r. Ok (contents.Reset r)
 one at kinds.Failures p w = or_fault (failures_of (map upper w)) (faults.BadValue p)
+one at kinds.Length p w = or_fault (if_longest (number_of w)) (faults.BadValue p) >>= λ n. Ok (contents.Length n)
+one at kinds.Truth p w = or_fault (truth_of (map upper w)) (faults.BadValue p) >>= λ b. Ok (contents.Truth b)
+one at kinds.ClassNames p w = or_fault (class_names_of (map upper w)) (faults.BadValue p) >>= λ n. Ok (contents.ClassNames n)
 one at k p w = Err (faults.BadValue p)
 
 -- In the quotes of a user's name any byte may stand, and the name as a whole is judged.
@@ -157,6 +180,9 @@ value at kinds.AddedMembers p is = added (member_form at.known.class at.known.pr
 value at kinds.DroppedMembers p is = dropped (member_form at.known.class at.known.profile) p is >>= λ ns. Ok (contents.MemberNames ns)
 value at kinds.Failures p is = single at kinds.Failures p is
 value at kinds.LogOptions p is = log_clauses p is >>= λ cs. Ok (contents.LogOptions cs)
+value at kinds.Length p is = single at kinds.Length p is
+value at kinds.Truth p is = single at kinds.Truth p is
+value at kinds.ClassNames p is = single at kinds.ClassNames p is
 value at k p is = Err (faults.BadValue p)
 
 -- GENERIC stands with a generic name alone; where the name isn't known yet it is judged later, at its place.
@@ -204,3 +230,6 @@ text_of (contents.MemberNames ns) = ids_text (map profile_text ns)
 text_of (contents.Generic p) = []
 text_of contents.Failures = codes "FAILURES"
 text_of (contents.LogOptions cs) = ids_text (map clause_text cs)
+text_of (contents.Length n) = number_text n
+text_of (contents.Truth b) = truth_name b
+text_of (contents.ClassNames n) = class_names_name n

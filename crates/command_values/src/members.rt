@@ -134,7 +134,7 @@ fn ranged(number: u32) -> Option<u8>
 }
 
 /// A number from 1 to 254, without a zero in front.
-fn number(word: &[u8]) -> Option<u8>
+pub fn number(word: &[u8]) -> Option<u8>
     ensures { result ≡ number_of word.now }
 {
     let (first, _) = word.split_first()?;

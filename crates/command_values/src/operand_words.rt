@@ -119,10 +119,14 @@ pub enum Word {
     Refresh,
     /// LOGOPTIONS, what is logged of accesses to a class.
     Logoptions,
+    /// MAXLENGTH, how long the names of a class that is defined may be.
+    Maxlength,
+    /// NAMES, which names the profiles of a class that is defined have.
+    Names,
 }
 
 /// The words in full, in the order of the variants.
-const SPELLINGS: [&[u8]; 56] = [
+const SPELLINGS: [&[u8]; 58] = [
     b"USER",
     b"GROUP",
     b"NAME",
@@ -179,6 +183,8 @@ const SPELLINGS: [&[u8]; 56] = [
     b"NOGLOBAL",
     b"REFRESH",
     b"LOGOPTIONS",
+    b"MAXLENGTH",
+    b"NAMES",
 ];
 
 impl Word {

@@ -7,6 +7,7 @@ ghost use Rattle.command_words.specs.Bytes.{upper};
 ghost use Rattle.command_fields.specs.ProfileNames.{dataset_profile as profile_of_dataset, general_profile as profile_general, if_label, is_level_or_category as names_level_or_category, profile_in as profile_by_form, form_in as names_in, general_form as form_general, class_profile as profile_of_class, in_quotes as text_in_quotes, dataset_text as text_of_dataset, dataset_named as dataset_by_word, is_unclosed as begins_unclosed, named_by_form as profile_by_word, any_named as profile_of_any};
 
 use access_levels::Id;
+use command_fields::is_cdt;
 use command_words::folded;
 use generic_names::{NameKind, Pattern, first_qualifier};
 use racf_profiles::{NameForm, class_facts};
@@ -95,6 +96,9 @@ fn profile_in(form: NameForm, text: &[u8]) -> Option<Pattern>
 fn form_in(class: Id) -> NameForm
     ensures { result ≡ names_in class }
 {
+    if is_cdt(class) {
+        return NameForm::Class;
+    }
     match class_facts(class) {
         Some(facts) => facts.names,
         None => NameForm::General,

@@ -45,4 +45,10 @@ pub enum ValueKind {
     Failures,
     /// Words of LOGOPTIONS, each with one class or more, whether or not the table has it.
     LogOptions,
+    /// A number from 1 to 246, without a zero in front.
+    Length,
+    /// YES or NO.
+    Truth,
+    /// FULL or ID.
+    ClassNames,
 }

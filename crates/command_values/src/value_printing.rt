@@ -9,6 +9,7 @@ ghost use Rattle.command_values.specs.Entries.{who_text, whos_text, port_text};
 ghost use Rattle.command_values.specs.Values.{ids_text, clause_text, text_of};
 
 use crate::log_options::log_option_name;
+use crate::value_reading::truth_name;
 use crate::values::Content;
 use access_levels::{Condition, Id, Level, Text, Who};
 use command_fields::LogClause;
@@ -270,5 +271,8 @@ fn push_text(out: &mut Vec<u8>, content: &Content) -> Result<(), AllocError>
         Content::Generic(_) => Ok(()),
         Content::Failures => out.extend_from_slice(b"FAILURES"),
         Content::LogOptions(clauses) => push_clauses(out, &clauses.items),
+        Content::Length(number) => push_number(out, *number),
+        Content::Truth(truth) => out.extend_from_slice(truth_name(*truth)),
+        Content::ClassNames(names) => out.extend_from_slice(names.name()),
     }
 }

@@ -8,21 +8,22 @@ ghost use Rattle.command_words.specs.Tokens.{tokens};
 ghost use Rattle.command_words.specs.ValuedWords.{valued_words};
 ghost use Rattle.command_values.specs.Results.{Gives, Finds};
 ghost use Rattle.command_values.specs.NamedWords.{id_named as id_in};
-ghost use Rattle.command_values.specs.Values.{unless_dataset, name_of as name_in, name_text, unquoted as text_between, reset_of, failures_of, one as one_of, quotes_of as quoting_of, single as single_of, names as names_of, some_names as some_names_of, several as several_of, value as value_of, generic_at as generic_in, bare as bare_of};
+ghost use Rattle.command_values.specs.Values.{unless_dataset, name_of as name_in, name_text, unquoted as text_between, reset_of, failures_of, if_longest, truth_name as truth_in, truth_of, class_names_of, one as one_of, quotes_of as quoting_of, single as single_of, names as names_of, some_names as some_names_of, several as several_of, value as value_of, generic_at as generic_in, bare as bare_of};
+ghost use Rattle.command_values.specs.Members.{number_of};
 ghost use Rattle.command_fields.specs.UserNames.{is_name as names_user, is_printable};
 
 use crate::audits::audit_rule;
 use crate::entries::{port, whos};
 use crate::faults::{ParseFault, Syntax};
 use crate::log_options::log_clauses;
-use crate::members::{added, dropped, member_form};
+use crate::members::{added, dropped, member_form, number};
 use crate::named_words::{authority_named, group_named, id_named, level_named};
 use crate::profile_names::{class_profile, dataset_named};
 use crate::value_kinds::ValueKind;
 use crate::value_words::{held, unless_stray, word_of};
-use crate::values::{Content, ProfileName, RESETS, Scope};
+use crate::values::{CLASS_NAMES, Content, ProfileName, RESETS, Scope};
 use access_levels::{Id, Text};
-use command_fields::{Ids, Reset};
+use command_fields::{ClassNames, Ids, Reset};
 use command_words::{Quoting, Tokens, is_spelled};
 use generic_names::Pattern;
 use std::alloc::{AllocError, Global};
@@ -170,6 +171,52 @@ fn failures_named(word: &[u8]) -> Option<Content>
     }
 }
 
+/// How long names may be, where a word is such a number.
+fn length_named(word: &[u8]) -> Option<u8>
+    ensures { result ≡ if_longest (number_of word.now) }
+{
+    let number = number(word)?;
+    if number >= 1 && number <= 246 {
+        Some(number)
+    } else {
+        None
+    }
+}
+
+/// The word for a truth.
+pub fn truth_name(truth: bool) -> &'static [u8]
+    ensures { result.now ≡ truth_in truth }
+{
+    if truth {
+        b"YES".as_slice()
+    } else {
+        b"NO".as_slice()
+    }
+}
+
+/// YES or NO, where a word spells it.
+fn truth_named(word: &[u8]) -> Option<bool>
+    ensures { result ≡ truth_of (map upper word.now) }
+{
+    if is_spelled(word, truth_name(true)) {
+        Some(true)
+    } else if is_spelled(word, truth_name(false)) {
+        Some(false)
+    } else {
+        None
+    }
+}
+
+/// FULL or ID, where a word spells it.
+fn class_names_named(word: &[u8]) -> Option<ClassNames>
+    ensures { result ≡ class_names_of (map upper word.now) }
+{
+    CLASS_NAMES
+        .iter()
+        .copied()
+        .find(|names| is_spelled(word, names.name()))
+}
+
 /// The value that a word is.
 pub fn one(
     alloc: Global,
@@ -198,6 +245,9 @@ pub fn one(
         }
         ValueKind::Reset => Ok(Content::Reset(reset_named(word).ok_or(bad)?)),
         ValueKind::Failures => Ok(failures_named(word).ok_or(bad)?),
+        ValueKind::Length => Ok(Content::Length(length_named(word).ok_or(bad)?)),
+        ValueKind::Truth => Ok(Content::Truth(truth_named(word).ok_or(bad)?)),
+        ValueKind::ClassNames => Ok(Content::ClassNames(class_names_named(word).ok_or(bad)?)),
         _ => Err(ParseFault::Syntax(bad)),
     }
 }
@@ -292,6 +342,9 @@ pub fn value(
         }
         ValueKind::Failures => single(alloc, at, kind, place, inner),
         ValueKind::LogOptions => Ok(Content::LogOptions(log_clauses(alloc, place, inner)?)),
+        ValueKind::Length => single(alloc, at, kind, place, inner),
+        ValueKind::Truth => single(alloc, at, kind, place, inner),
+        ValueKind::ClassNames => single(alloc, at, kind, place, inner),
         _ => Err(ParseFault::Syntax(Syntax::BadValue(place))),
     }
 }

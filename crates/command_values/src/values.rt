@@ -1,7 +1,7 @@
 //! The values of positional words and operands.
 
 use access_levels::{Condition, GroupAuthority, Id, Level, Text};
-use command_fields::{Ids, LogClauses, MemberNames, Reset, Whos};
+use command_fields::{ClassNames, Ids, LogClauses, MemberNames, Reset, Whos};
 use generic_names::Pattern;
 use racf_profiles::{AuditRule, Members};
 use std::alloc::{AllocError, Global};
@@ -46,6 +46,9 @@ impl ProfileName {
 /// The words of RESET.
 pub const RESETS: [Reset; 3] = [Reset::All, Reset::Standard, Reset::When];
 
+/// The words of NAMES.
+pub const CLASS_NAMES: [ClassNames; 2] = [ClassNames::Full, ClassNames::Id];
+
 /// The value of a positional word or an operand.
 #[derive(Drop)]
 pub enum Content {
@@ -81,6 +84,12 @@ pub enum Content {
     Failures,
     /// What is logged of accesses to classes.
     LogOptions(LogClauses),
+    /// How long names may be, in bytes.
+    Length(u8),
+    /// YES, or NO.
+    Truth(bool),
+    /// Which names the profiles of a class have.
+    ClassNames(ClassNames),
 }
 
 /// What the reading of a command depends on beside its text.

@@ -37,6 +37,8 @@ module _ (one : OneIsBefore) (puts : PutsAreCounted) (passed_on : PassedOn) (rea
       r_define-lawful one puts passed_on issuer c rows lawful name.0 name.1 (class_profile-spelled c.class c.profile f.profile) (audit-lawful c.audit f.audit) (members-lawful c.class c.profile f.profile c.addmem f.addmem) h
   step-lawful issuer (command.RAlter c) rows lawful f h =
       r_alter-lawful one puts passed_on issuer c rows lawful (audit-lawful c.audit f.audit) (audit-lawful c.globalaudit f.globalaudit) (members-lawful c.class c.profile f.profile c.addmem f.addmem) h
+  step-lawful issuer (command.DefineClass c) rows lawful f h = lawful
+  step-lawful issuer (command.AlterClass c) rows lawful f h = lawful
   step-lawful issuer (command.RDelete c) rows lawful f h = profile-dropped-lawful one puts passed_on rows c.class c.profile lawful
   step-lawful issuer (command.Permit c) rows lawful f h = permit-lawful one puts passed_on issuer c rows lawful h
   step-lawful issuer (command.SetRopts c) rows lawful f h = set_ropts-lawful c rows h lawful

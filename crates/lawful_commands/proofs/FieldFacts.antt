@@ -20,6 +20,8 @@ use Rattle.racf_profiles.specs.declared.profiles.Member.{Member}
 use Rattle.racf_profiles.specs.declared.profiles.Member.TheVariants.{Access, SecurityLevel, Category}
 use Rattle.racf_profiles.specs.declared.fixed_classes.FixedClass.{FixedClass}
 use Rattle.racf_profiles.specs.declared.fixed_classes.FixedClass.TheVariants.{Dataset, Secdata, Seclabel, Global}
+use Rattle.racf_profiles.specs.declared.fixed_classes.FixedClass.TheVariants as fixed_names
+use Rattle.command_fields.specs.Classes.{cdt}
 use Rattle.racf_profiles.specs.declared.fixed_classes.NameForm.{NameForm}
 use Rattle.racf_profiles.specs.declared.fixed_classes.NameForm.TheVariants as names
 use Rattle.racf_profiles.specs.ClassTable.{class_name, facts_of, facts_of_class}
@@ -94,6 +96,23 @@ labelled (Some other) name h =
     let parts = where-true (is_generic other || is_ok (id_of other.text)) (Some other) name h in
     (parts.1, let it : other ≡ name = (let e = parts.1 in cc) in ap (λ (n : Spelled). is_generic n || is_ok (id_of n.text)) (sym it) ∙ parts.0)
 
+-- none of the fixed classes is CDT
+not-cdt : (fixed : FixedClass) → bytes_eq (class_name fixed) cdt ≡ false
+not-cdt fixed_names.Dataset = refl
+not-cdt fixed_names.Facility = refl
+not-cdt fixed_names.Terminal = refl
+not-cdt fixed_names.Console = refl
+not-cdt fixed_names.Jesinput = refl
+not-cdt fixed_names.Appcport = refl
+not-cdt fixed_names.Appl = refl
+not-cdt fixed_names.Opercmds = refl
+not-cdt fixed_names.Surrogat = refl
+not-cdt fixed_names.Tapevol = refl
+not-cdt fixed_names.Dasdvol = refl
+not-cdt fixed_names.Secdata = refl
+not-cdt fixed_names.Seclabel = refl
+not-cdt fixed_names.Global = refl
+
 -- the name of a profile of a class, by the form that the class's names have
 module _ (class : List ℕ) (name : Spelled) (is : IsClassProfile class name) where
   general-profile : general_profile name.text ≡ Some name
@@ -111,7 +130,10 @@ module _ (class : List ℕ) (name : Spelled) (is : IsClassProfile class name) wh
 
   by_form : (fixed : FixedClass) → class ≡ class_name fixed → profile_in (general_form (facts_of_class fixed).names) name.text ≡ Some name
   unfolding form_in
-  by_form fixed named = sym (ap (λ o. profile_in (general_form (form_of o)) name.text) (ap facts_of named ∙ facts_of-each fixed)) ∙ is
+  by_form fixed named =
+      let other : bytes_eq class cdt ≡ false = ap (λ c. bytes_eq c cdt) named ∙ not-cdt fixed in
+      let is_form : profile_in (general_form (form_of (facts_of class))) name.text ≡ Some name = sym (ap (λ c. profile_in (general_form (cond c names.Class (form_of (facts_of class)))) name.text) other) ∙ is in
+      sym (ap (λ o. profile_in (general_form (form_of o)) name.text) (ap facts_of named ∙ facts_of-each fixed)) ∙ is_form
 
   pub class_profile-spelled : (fixed : FixedClass) → class ≡ class_name fixed → bytes_eq class dataset ≡ false → is_spelled_by (facts_of_class fixed).names name ≡ true
   class_profile-spelled fixed named other = by fixed named (by_form fixed named)

@@ -97,6 +97,8 @@ module _ (one : OneIsBefore) (puts : PutsAreCounted) (passed_on : PassedOn) (rea
         (general-kind issuer c tables.rows h (class_profile-lawful c.class c.profile f.profile reads_back).1) room after
     can_apply-edits_of issuer (command.RAlter c) f h room after =
         changed-ready tables one puts passed_on lawful c.class c.profile (altered_resource c tables.rows) (λ p. refl) c.addmem tables.rows.options (profile_of c.class c.profile tables.rows) refl room after
+    can_apply-edits_of issuer (command.DefineClass c) f h room after = tt
+    can_apply-edits_of issuer (command.AlterClass c) f h room after = tt
     can_apply-edits_of issuer (command.RDelete c) f h room after = (tt, tt)
     can_apply-edits_of issuer (command.Permit c) f h room after =
         alone-ready tables one puts passed_on lawful c.class c.profile (permitted_profile c) (λ p. refl) (profile_of c.class c.profile tables.rows) refl room after

@@ -23,9 +23,10 @@ class Ended(Exception):
 class Asker:
     """racf at work at the database of a folder, which is asked line by line. What it says goes to the log, and lines of AUDIT."""
 
+    WORDS = ["script", "--issuer", NOBODY, "-", "-"]
+
     def __init__(self, program, folder=".", log=sys.stderr):
-        words = [program, "script", "--issuer", NOBODY, "-", "-"]
-        self.racf = subprocess.Popen(words, cwd=folder, stdin=subprocess.PIPE, stdout=subprocess.PIPE, stderr=log)
+        self.racf = subprocess.Popen([program, *self.WORDS], cwd=folder, stdin=subprocess.PIPE, stdout=subprocess.PIPE, stderr=log)
         self.log = log
 
     def line(self):
@@ -35,13 +36,17 @@ class Asker:
             raise Ended(self.racf.wait())
         return line[:-1]
 
-    def answer(self, *words):
-        """The answer to a request of these words. What is logged of the request before it stands in front."""
+    def write(self, line):
+        """Writes a line."""
         try:
-            self.racf.stdin.write(" ".join(words).encode() + b"\n")
+            self.racf.stdin.write(line.encode() + b"\n")
             self.racf.stdin.flush()
         except BrokenPipeError:
             raise Ended(self.racf.wait()) from None
+
+    def answer(self, *words):
+        """The answer to a request of these words. What is logged of the request before it stands in front."""
+        self.write(" ".join(words))
         line = self.line()
         while line.startswith("AUDIT "):
             print(line, file=self.log, flush=True)

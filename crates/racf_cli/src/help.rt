@@ -10,6 +10,8 @@ pub(crate) const HELP: &str = "usage: racf init
        racf script --issuer ID IN OUT
        racf check IN OUT
        racf check --issuer ID IN OUT
+       racf ask IN OUT
+       racf ask -n IN OUT
        racf run K NAME..
        racf run --issuer ID K NAME..
        racf compact
@@ -23,6 +25,8 @@ IN and OUT differ, or both are -: standard input and standard output. A command 
 disk, and outlives the program and the machine's power.
 check tries the file IN: it writes to OUT what script would write now, and keeps nothing of it. It only reads the
 database, which others may read or work meanwhile.
+ask answers the requests of the file IN, and nothing else: a line that begins with any other word is refused. With -n
+each line of OUT begins with the number of the line of IN that it answers. It too only reads the database.
 run opens it too, and works the first K of the files NAME.., from 1 to 4, as decks, and the others, at most 16, as
 request files, all side by side, each in a thread of its own. The output of NAME is NAME.out. A deck holds commands and
 lines *ISSUER, a request file requests; each request is answered on what all decks have done by then. No NAME stands
@@ -94,6 +98,15 @@ check reads the database of this folder, works the lines of the file IN, and wri
 write now; nothing of it is kept, and the database stays as it is. IN and OUT differ, or both are -: standard input and
 standard output. With --issuer ID gives all commands, and lines *ISSUER are refused.";
 
+/// What `racf ask --help` prints.
+const ASK: &str = "usage: racf ask IN OUT
+       racf ask -n IN OUT
+
+ask reads the database of this folder, and writes the answers to the requests of the file IN to the file OUT, which is
+made anew: each request is answered on what the database holds now. A line whose first word is no request's is refused,
+so nothing in IN is a command. With -n each line of OUT begins with the number of the line of IN that it answers. IN and
+OUT differ, or both are -: standard input and standard output. A file of the name -n is ./-n.";
+
 /// What `racf run --help` prints.
 const RUN: &str = "usage: racf run K NAME..
        racf run --issuer ID K NAME..
@@ -126,7 +139,7 @@ pub(crate) struct Word {
 }
 
 /// The words.
-const WORDS: [Word; 6] = [
+const WORDS: [Word; 7] = [
     Word {
         name: "init",
         form: "nothing behind it, or over",
@@ -141,6 +154,11 @@ const WORDS: [Word; 6] = [
         name: "check",
         form: "IN OUT behind it, two files that differ or both -, or --issuer ID IN OUT",
         help: CHECK,
+    },
+    Word {
+        name: "ask",
+        form: "IN OUT behind it, two files that differ or both -, or -n IN OUT",
+        help: ASK,
     },
     Word {
         name: "run",

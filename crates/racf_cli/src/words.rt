@@ -12,6 +12,12 @@ const SCRIPT: &str = "script";
 /// The word of a stream that is tried.
 const CHECK: &str = "check";
 
+/// The word of questions alone.
+const ASK: &str = "ask";
+
+/// Behind `ask`: lines are numbered.
+const NUMBERED: &str = "-n";
+
 /// Behind `script`, `check` or `run`: who gives all commands.
 const ISSUER: &str = "--issuer";
 
@@ -50,18 +56,26 @@ pub(crate) fn asked_for(words: &[String]) -> Asked {
     }
 }
 
-/// Whether the words are those of a dialogue: a stream from standard input to standard output.
+/// Whether the words are those of a dialogue: a stream from standard input to standard output. Questions are none: no
+/// line of them goes on, and a number in front may be that of the line.
 pub(crate) fn are_standard(words: &[String]) -> bool {
-    match stream_names(words) {
-        Some((input, output)) => input == "-" && output == "-",
-        None => false,
+    match (words, stream_names(words)) {
+        ([verb, ..], Some((input, output))) => {
+            is_stream_word(verb) && input == "-" && output == "-"
+        }
+        _ => false,
     }
 }
 
-/// IN and OUT, where the words are those of a stream that is worked or tried.
+/// IN and OUT, where the words are those of a stream that is worked or tried, or of questions.
 pub(crate) fn stream_names(words: &[String]) -> Option<(&str, &str)> {
     match words {
-        [verb, input, output] if is_stream_word(verb) => Some((input.as_str(), output.as_str())),
+        [verb, input, output] if is_stream_word(verb) || verb.as_str() == ASK => {
+            Some((input.as_str(), output.as_str()))
+        }
+        [verb, option, input, output] if verb.as_str() == ASK && option.as_str() == NUMBERED => {
+            Some((input.as_str(), output.as_str()))
+        }
         [verb, option, _, input, output] if is_stream_word(verb) && option.as_str() == ISSUER => {
             Some((input.as_str(), output.as_str()))
         }

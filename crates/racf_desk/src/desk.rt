@@ -367,7 +367,9 @@ impl<D: Disk> Desk<D> {
         self.is_at_rest();
         self.made = None;
         let rows = self.database.to_rows(alloc)?;
-        match self.store.compact(alloc, self.image.generation(), &rows) {
+        let written = self.store.compact(alloc, self.image.generation(), &rows);
+        drop(rows);
+        match written {
             Ok(()) => {
                 self.gate = self.store.gate();
                 Ok(())

@@ -15,7 +15,7 @@ use racf_database::Database;
 use racf_profiles::NoMemory;
 use racf_profiles::laws::rows_are_changed;
 use raclist_image::Image;
-use std::alloc::Global;
+use std::alloc::{AllocError, Global};
 use std::sync::Arc;
 
 /// What is made of a command that is accepted, over the rows and their image. The database has its edits prepared then.
@@ -36,9 +36,18 @@ pub(crate) fn make(
     // The rows of the state behind the edits are those behind them.
     rows_are_changed();
     let number = image.generation() + 1;
-    let entry = entry_of(alloc, &given)?;
-    let change = database.prepare(alloc, &given.issuer, &given.command)?;
-    let image = image.after(alloc, &change, number)?;
+    let Ok(entry) = entry_of(alloc, &given) else {
+        drop(given);
+        return Err(AllocError);
+    };
+    let Ok(change) = database.prepare(alloc, &given.issuer, &given.command) else {
+        drop(given);
+        return Err(AllocError);
+    };
+    let Ok(image) = image.after(alloc, &change, number) else {
+        drop(given);
+        return Err(AllocError);
+    };
     let CommandRecord { issuer, command } = given;
     Ok(Ready {
         number,

@@ -42,13 +42,17 @@ pub(crate) fn outcome_in(
     };
     let issuer = match issuer_of(database, id, group) {
         Ok(issuer) => issuer,
-        Err(why) => return Ok(Err(why)),
+        Err(why) => {
+            drop(command);
+            return Ok(Err(why));
+        }
     };
     let given = CommandRecord { issuer, command };
-    Ok(match refusal_of(gate, number, database, &given) {
-        Some(why) => Err(why),
-        None => Ok(given),
-    })
+    if let Some(why) = refusal_of(gate, number, database, &given) {
+        drop(given);
+        return Ok(Err(why));
+    }
+    Ok(Ok(given))
 }
 
 /// The command that the text spells where this issuer gives it, or its first fault.

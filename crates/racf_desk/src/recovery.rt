@@ -134,10 +134,11 @@ impl Recovery {
         let Some(issued) = accepted_again(self.number, &self.database, given) else {
             return Err(StoreFault::Damaged(self.gate));
         };
-        let Ok(change) = self
+        let prepared = self
             .database
-            .prepare(alloc, &issued.issuer, &issued.command)
-        else {
+            .prepare(alloc, &issued.issuer, &issued.command);
+        drop(issued);
+        let Ok(change) = prepared else {
             return Err(StoreFault::NoMemory);
         };
         self.database.apply(change);
@@ -159,10 +160,11 @@ impl Recovery {
             gate,
         } = self;
         let rows = database.to_rows(alloc)?;
-        let image = Image::of(alloc, &rows, number)?;
+        let image = Image::of(alloc, &rows, number);
+        drop(rows);
         Ok(Recovered {
             database,
-            image,
+            image: image?,
             gate,
         })
     }
@@ -174,13 +176,12 @@ fn accepted_again(number: u64, database: &Database, given: CommandRecord) -> Opt
 {
     let CommandRecord { issuer, command } = given;
     let Ok(issuer) = issuer_of(database, issuer.id, Some(issuer.group)) else {
+        drop(command);
         return None;
     };
     let given = CommandRecord { issuer, command };
-    if rules_of(database, &given).is_some() {
-        return None;
-    }
-    if number >= MOST_NUMBER {
+    if rules_of(database, &given).is_some() || number >= MOST_NUMBER {
+        drop(given);
         return None;
     }
     Some(given)

@@ -1,3 +1,4 @@
+pub mod AskLaws
 pub mod CheckLaws
 pub mod CompactLaws
 pub mod DiskLaws

@@ -21,11 +21,11 @@ check_files = stream_files (codes "check")
 abbrev pub NeverFailed : State → Type 0
 NeverFailed s = s.halted ≡ false
 
--- The database was looked at, or why not; then the stream was worked as `script` works it, from the position on that the
--- disks stood for, but that no disk fails: and where its input was read to its end, exactly that was written. Unless a
--- disk failed the disks were only synced: each holds the bytes that it held. Either way a crash leaves of them, at every
--- moment and behind it, what it might have left before. They told `first` and `second` before, and tell the next ones now; the calls are those of
--- RunsOnShelf.
+-- The database was looked at, or why not; then the stream was worked as `script` works it, from the position on that
+-- the disks stood for, but that no disk fails: and where its input was read to its end, exactly that was written.
+-- Unless a disk failed the disks were only synced: each holds the bytes that it held. Either way a crash leaves of
+-- them, at every moment and behind it, what it might have left before. They told `first` and `second` before, and tell
+-- the next ones now; the calls are those of RunsOnShelf.
 module _ {S I O : Type 0} (source : S → List ℕ → Result I Failed → S → Type 0) (sink : S → List ℕ → Result O Failed → S → Type 0) (take_back : S → List ℕ → I → S → Type 0) (give_back : S → List ℕ → O → S → Type 0) (tells : Bool) (output : S → List ℕ → Option (List ℕ)) (read_failed write_failed : Type 0) where
   pub record Checks (first second next_first next_second : Option History) (status : Status) (input : Option (List ℕ)) (files : Files) (old new : S) : Type 0 where
     pub runs : OpensNoDatabase first second next_first next_second status old new

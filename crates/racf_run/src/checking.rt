@@ -7,26 +7,24 @@ ghost use Rattle.racf_journal.specs.Opening.{OnlySynced};
 ghost use Rattle.racf_run.specs.Checking.{Checks};
 ghost use Rattle.racf_run.specs.Racf.{IsUnsound, OpensNone, RoseEither};
 
-use crate::top::{opening_status, script_between};
+use crate::top::{Files, opening_status, script_between};
 use racf_desk::Desk;
 use racf_outside::{Disk, Shelf, Two};
-use statements::{Issuing, Status};
+use statements::Status;
 use std::alloc::Global;
 
 /// Looks at the database on the disks, and works a stream from an input of a shelf to an output, at a desk whose disks
 /// keep nothing and never fail.
 pub(crate) fn check_on<F: Shelf, D: Disk>(
     alloc: Global,
-    issuing: Issuing,
-    input: &str,
-    output: &str,
+    files: Files<'_>,
     shelf: &mut F,
     disks: Two<D>,
 ) -> (Status, Two<D>)
     ensures checks { Checks F.source_gives F.sink_gives F.take_back_gives F.give_back_gives F.tells F.output
         (Rose (F.source_faults shelf.old) (F.source_faults shelf.new)) (Rose (F.sink_faults shelf.old) (F.sink_faults shelf.new))
         (D.tells disks.first) (D.tells disks.second) (D.tells result.1.first) (D.tells result.1.second) result.0
-        (F.input shelf.old input.now) (record { issuing = issuing; input = input.now; output = output.now }) shelf.old shelf.new }
+        (F.input shelf.old files.entry.input.now) (record { issuing = files.entry.issuing; input = files.entry.input.now; output = files.entry.output.now }) shelf.old shelf.new }
     ensures usage { result.0 ≢ Status.Usage }
     ensures only_synced { IsUnsound result.0 → OnlySynced (D.tells disks.first) (D.tells result.1.first) × OnlySynced (D.tells disks.second) (D.tells result.1.second) }
     ensures read_fault { result.0 ≡ Status.ReadFault → Rose (F.source_faults shelf.old) (F.source_faults shelf.new) }
@@ -39,6 +37,11 @@ pub(crate) fn check_on<F: Shelf, D: Disk>(
     ensures first_faults { D.faults disks.first ≤ D.faults result.1.first }
     ensures second_faults { D.faults disks.second ≤ D.faults result.1.second }
 {
+    let Files {
+        issuing,
+        input,
+        output,
+    } = files;
     let (disks, looked) = Desk::look(alloc, disks);
     match looked {
         Ok(desk) => {

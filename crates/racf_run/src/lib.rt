@@ -4,7 +4,8 @@
 //! the text of `racf_generator`; both answer with a `Status`. The stream between one source and one sink, `script`, is
 //! that of `racf_stream`; decks and request files side by side, `run`, are those of `racf_threads`, whose workers ask a
 //! `Gate` of `racf_workers` at each line. The words `init` and `compact` make a new database, and write a checkpoint of
-//! one, by the desk of `racf_desk`; `check` tries a stream at a desk that looks at the database, and keeps nothing of it.
+//! one, by the desk of `racf_desk`; `check` tries a stream at a desk that looks at the database, and keeps nothing of
+//! it, and `ask` answers questions there by `racf_ask`.
 //!
 //! ```text
 //! let (status, disks) = racf(rt, alloc, words, &mut shelf, disks, &Idle);
@@ -12,6 +13,7 @@
 //! ```
 #![tactic(auto)]
 
+mod asking;
 mod checking;
 mod compacting;
 mod issuers;

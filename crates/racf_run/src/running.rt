@@ -10,6 +10,7 @@ ghost use Rattle.racf_run.specs.Opening.{output_name, AreNew, AreOpen, OthersSta
 ghost use Rattle.racf_run.specs.Racf.{IsUnsound, OpensNoDatabase, OpensDatabase, OpenedDisks, OpensOn, StandsStill, OpensNone, RoseEither, FaultCounts, AreNoMore, fault_counts, opened_on};
 ghost use Rattle.racf_run.specs.Running.{are_run_words, unopened_status, NamedRan, RunsFiles};
 
+use crate::names::RunWords;
 use crate::opening::{Unopened, open_all, return_files, room_for};
 use crate::top::opening_status;
 use racf_desk::Desk;
@@ -25,9 +26,7 @@ use std::thread::Threads;
 pub(crate) fn run_on<F: Shelf, D: Disk + Send, G: Gate + Sync, R: Wait + Threads + Sync>(
     rt: &R,
     alloc: Global,
-    issuing: Issuing,
-    decks: u32,
-    names: &[String],
+    asked: RunWords<'_>,
     shelf: &mut F,
     disks: Two<D>,
     gate: &G,
@@ -35,15 +34,15 @@ pub(crate) fn run_on<F: Shelf, D: Disk + Send, G: Gate + Sync, R: Wait + Threads
 where
     F::In: Drop + Send,
     F::Out: Drop + Send,
-    requires form { are_run_words decks (map string_bytes names.now) ≡ true }
+    requires form { are_run_words asked.decks (map string_bytes asked.names.now) ≡ true }
     ensures runs { OpensNoDatabase (D.tells disks.first) (D.tells disks.second) (D.tells result.1.first) (D.tells result.1.second) result.0 shelf.old shelf.new
         ⊎ OpensDatabase (D.tells disks.first) (D.tells disks.second) (λ base. (opened : OpenedDisks) × OpensOn (D.tells disks.first) (D.tells disks.second) opened × RunsFiles F.source_gives F.sink_gives F.take_back_gives F.give_back_gives F.tells F.output
         (λ outs. NamedRan opened (D.tells result.1.first) (D.tells result.1.second)
         (fault_counts (F.source_faults shelf.old) (F.sink_faults shelf.old) (D.faults disks.first) (D.faults disks.second))
-        (fault_counts (F.source_faults shelf.new) (F.sink_faults shelf.new) (D.faults result.1.first) (D.faults result.1.second)) base F.tells result.0 (record { issuing = issuing; decks = decks; names = map string_bytes names.now })
+        (fault_counts (F.source_faults shelf.new) (F.sink_faults shelf.new) (D.faults result.1.first) (D.faults result.1.second)) base F.tells result.0 (record { issuing = asked.entry.issuing; decks = asked.entry.decks; names = map string_bytes asked.entry.names.now })
         (reads_of F.In.faults outs) (writes_of F.Out.faults outs) (F.input shelf.old) (F.output shelf.old) (F.output shelf.new))
         (StandsStill opened (D.tells result.1.first) (D.tells result.1.second) base)
-        result.0 (map string_bytes names.now) shelf.old shelf.new) }
+        result.0 (map string_bytes asked.entry.names.now) shelf.old shelf.new) }
     ensures usage { result.0 ≢ Status.Usage }
     ensures only_synced { IsUnsound result.0 → OnlySynced (D.tells disks.first) (D.tells result.1.first) × OnlySynced (D.tells disks.second) (D.tells result.1.second) }
     ensures read_fault { result.0 ≡ Status.ReadFault → Rose (F.source_faults shelf.old) (F.source_faults shelf.new) }
@@ -56,6 +55,11 @@ where
     ensures first_faults { D.faults disks.first ≤ D.faults result.1.first }
     ensures second_faults { D.faults disks.second ≤ D.faults result.1.second }
 {
+    let RunWords {
+        issuing,
+        decks,
+        names,
+    } = asked;
     match Desk::open(alloc, disks) {
         Ok(desk) => run_between(rt, alloc, issuing, decks, names, shelf, desk, gate),
         Err((disks, why)) => (opening_status(why), disks),

@@ -12,6 +12,7 @@ ghost use Rattle.desk_rules.specs.Durable.{LeavesBoth, SameIdle};
 ghost use Rattle.desk_rules.specs.Recovery.{StandsFor};
 ghost use Rattle.racf_run.specs.Racf.{files_of, script_files, stream_files, is_init, opening_status, RunsOnShelf, MakesOnShelf, IsWholeOutput, OpensNone};
 ghost use Rattle.racf_run.specs.Racf.{IsUnsound, OpensNoDatabase, OpensDatabase, OpenedDisks, OpensOn, StandsStill, EndsOn, EndsAt, RoseEither, fault_counts};
+ghost use Rattle.racf_run.specs.Asking.{ask_files, Asks};
 ghost use Rattle.racf_run.specs.Checking.{check_files, Checks};
 ghost use Rattle.racf_run.specs.Opening.{reads_of, writes_of};
 ghost use Rattle.racf_run.specs.Compacting.{is_compact, EndsCompact, MovesToCompact};
@@ -20,6 +21,7 @@ ghost use Rattle.racf_run.specs.Running.{run_words, NamedRan, RunsFiles};
 ghost use Rattle.statements.specs.Runs.{longest_input};
 ghost use Rattle.statements.specs.Status.{is_whole};
 
+use crate::asking::{ask_files, ask_on};
 use crate::checking::check_on;
 use crate::compacting::{compact_on, is_compact};
 use crate::issuers::{fixed_issuer, is_issuer_word};
@@ -42,13 +44,13 @@ const MOST_USERS: u64 = 10_000;
 
 /// What the words of a stream name.
 #[derive(Clone, Copy)]
-struct Files<'a> {
+pub(crate) struct Files<'a> {
     /// Who gives the commands.
-    issuing: Issuing,
+    pub(crate) issuing: Issuing,
     /// IN.
-    input: &'a str,
+    pub(crate) input: &'a str,
     /// OUT.
-    output: &'a str,
+    pub(crate) output: &'a str,
 }
 
 /// What the words `make N OUT` ask for.
@@ -64,13 +66,14 @@ struct MakeWords<'a> {
 /// word `init` makes a new database, whatever the disks held. The word `compact` opens the database and writes a
 /// checkpoint of it, on the disk that doesn't count: then that one counts, and there are no records behind it. The
 /// words `script IN OUT` open the database, work the stream of the input IN, and write to the output OUT; IN and OUT
-/// differ or are both `-`. The words `check IN OUT` do the same at a desk that looks at the database: the stream is tried,
-/// and nothing of it is kept. The words `run K NAME..` open the database, and work the first K of the names, from 1 to 4,
-/// as decks, and the others, at most 16, as request files, each in a thread of its own: the output of NAME is
-/// `NAME.out`. The names differ, and none is the output of another. The words `make N OUT` write the generated text of
-/// N users, from 1 to 10,000, to the output OUT. Behind `script`, `check` and `run` the words `--issuer ID` may stand: then that
-/// user gives all commands, and each line that would name an issuer is refused. Other words are `Usage`. (The words are
-/// this product's own.)
+/// differ or are both `-`. The words `check IN OUT` do the same at a desk that looks at the database: the stream is
+/// tried, and nothing of it is kept. The words `ask IN OUT`, or `ask -n IN OUT`, look at the database, and answer the
+/// lines of IN as a request file: with `-n` each line that is printed has the number of the input's line in front. The
+/// words `run K NAME..` open the database, and work the first K of the names, from 1 to 4, as decks, and the others, at
+/// most 16, as request files, each in a thread of its own: the output of NAME is `NAME.out`. The names differ, and none
+/// is the output of another. The words `make N OUT` write the generated text of N users, from 1 to 10,000, to the
+/// output OUT. Behind `script`, `check` and `run` the words `--issuer ID` may stand: then that user gives all commands,
+/// and each line that would name an issuer is refused. Other words are `Usage`. (The words are this product's own.)
 ///
 /// The database is opened first, then of each name the input and then the output; each that was opened is handed back,
 /// under its name. The gate is asked before and behind each line of a run.
@@ -142,6 +145,13 @@ where
         (D.tells disks.first) (D.tells disks.second) (D.tells result.1.first) (D.tells result.1.second) result.0
         (F.input shelf.old files.input) files shelf.old shelf.new) }
 
+    // Questions are answered at what is seen of the database; the disks are only synced, unless one failed.
+    ensures asks { IfSome (ask_files (map string_bytes words.now)) (λ files.
+        Asks F.source_gives F.sink_gives F.take_back_gives F.give_back_gives F.tells F.output
+        (Rose (F.source_faults shelf.old) (F.source_faults shelf.new)) (Rose (F.sink_faults shelf.old) (F.sink_faults shelf.new))
+        (D.tells disks.first) (D.tells disks.second) (D.tells result.1.first) (D.tells result.1.second) result.0
+        (F.input shelf.old files.input) files shelf.old shelf.new) }
+
     // The database is opened, or why not; and then a checkpoint of it is written, or a disk failed, or memory ran out,
     // which leaves it as it was. At every moment a crash leaves what stands for the database as it was opened.
     ensures compacts { is_compact (map string_bytes words.now) ≡ true →
@@ -152,7 +162,8 @@ where
         MovesToCompact (D.tells disks.first) (D.tells disks.second) (D.tells result.1.first) (D.tells result.1.second) }
 
     // Why it stopped.
-    ensures usage { (result.0 ≡ Status.Usage) ↔ (IsNone (script_files (map string_bytes words.now)) × IsNone (check_files (map string_bytes words.now)) × IsNone (make_words (map string_bytes words.now))
+    ensures usage { (result.0 ≡ Status.Usage) ↔ (IsNone (script_files (map string_bytes words.now)) × IsNone (check_files (map string_bytes words.now)) × IsNone (ask_files (map string_bytes words.now))
+        × IsNone (make_words (map string_bytes words.now))
         × (is_init (map string_bytes words.now) ≡ false) × (is_compact (map string_bytes words.now) ≡ false) × IsNone (run_words (map string_bytes words.now))) }
     ensures nothing_opened { (result.0 ≡ Status.Usage) ⊎ ((is_init (map string_bytes words.now) ≡ true) ⊎ (is_compact (map string_bytes words.now) ≡ true)) → shelf.new ≡ shelf.old }
     ensures read_fault { result.0 ≡ Status.ReadFault → Rose (F.source_faults shelf.old) (F.source_faults shelf.new) }
@@ -174,36 +185,16 @@ where
     ensures second_faults { D.faults disks.second ≤ D.faults result.1.second }
 {
     if let Some(files) = script_files(words) {
-        return script_on(
-            alloc,
-            files.issuing,
-            files.input,
-            files.output,
-            shelf,
-            disks,
-        );
+        return script_on(alloc, files, shelf, disks);
     }
     if let Some(files) = check_files(words) {
-        return check_on(
-            alloc,
-            files.issuing,
-            files.input,
-            files.output,
-            shelf,
-            disks,
-        );
+        return check_on(alloc, files, shelf, disks);
+    }
+    if let Some(files) = ask_files(words) {
+        return ask_on(alloc, files, shelf, disks);
     }
     if let Some(asked) = run_words(words) {
-        return run_on(
-            rt,
-            alloc,
-            asked.issuing,
-            asked.decks,
-            asked.names,
-            shelf,
-            disks,
-            gate,
-        );
+        return run_on(rt, alloc, asked, shelf, disks, gate);
     }
     if is_init(words) {
         return init(alloc, disks);
@@ -219,8 +210,8 @@ where
 }
 
 /// Whether the words are of a form that works on the disks, so that a program opens them to write. Where they are
-/// neither of such a form nor of one that looks at the disks (`looks_at_disks`), `racf` leaves the disks as they are, and
-/// a program need not open them.
+/// neither of such a form nor of one that looks at the disks (`looks_at_disks`), `racf` leaves the disks as they are,
+/// and a program need not open them.
 pub fn works_on_disks(words: &[String]) -> bool
     ensures { result ≡ is_some (script_files (map string_bytes words.now)) || is_init (map string_bytes words.now) || is_compact (map string_bytes words.now)
         || is_some (run_words (map string_bytes words.now)) }
@@ -231,12 +222,12 @@ pub fn works_on_disks(words: &[String]) -> bool
         || run_words(words).is_some()
 }
 
-/// Whether the words are of a form that only looks at the database: it syncs the disks and reads them, and makes no other
-/// call of them, so that a program may open them for reading alone.
+/// Whether the words are of a form that only looks at the database: it syncs the disks and reads them, and makes no
+/// other call of them, so that a program may open them for reading alone.
 pub fn looks_at_disks(words: &[String]) -> bool
-    ensures { result ≡ is_some (check_files (map string_bytes words.now)) }
+    ensures { result ≡ is_some (check_files (map string_bytes words.now)) || is_some (ask_files (map string_bytes words.now)) }
 {
-    check_files(words).is_some()
+    check_files(words).is_some() || ask_files(words).is_some()
 }
 
 /// Makes a new database on the disks.
@@ -259,9 +250,7 @@ fn init<D: Disk>(alloc: Global, disks: Two<D>) -> (Status, Two<D>)
 /// Opens the database on the disks, and works a stream from an input of a shelf to an output.
 fn script_on<F: Shelf, D: Disk>(
     alloc: Global,
-    issuing: Issuing,
-    input: &str,
-    output: &str,
+    files: Files<'_>,
     shelf: &mut F,
     disks: Two<D>,
 ) -> (Status, Two<D>)
@@ -270,18 +259,18 @@ fn script_on<F: Shelf, D: Disk>(
         (opened : OpenedDisks) × OpensOn (D.tells disks.first) (D.tells disks.second) opened
         × RunsOnShelf F.source_gives F.sink_gives F.take_back_gives F.give_back_gives F.tells F.output
         (Rose (F.source_faults shelf.old) (F.source_faults shelf.new)) (Rose (F.sink_faults shelf.old) (F.sink_faults shelf.new))
-        (EndsOn issuing base (F.input shelf.old input.now) opened (D.tells result.1.first) (D.tells result.1.second)
+        (EndsOn files.entry.issuing base (F.input shelf.old files.entry.input.now) opened (D.tells result.1.first) (D.tells result.1.second)
         (RoseEither (D.faults disks.first) (D.faults result.1.first) (D.faults disks.second) (D.faults result.1.second))) base
-        result.0 (F.input shelf.old input.now) (record { issuing = issuing; input = input.now; output = output.now }) shelf.old shelf.new) }
+        result.0 (F.input shelf.old files.entry.input.now) (record { issuing = files.entry.issuing; input = files.entry.input.now; output = files.entry.output.now }) shelf.old shelf.new) }
     ensures whole { IsTrue (is_whole result.0) → OpensDatabase (D.tells disks.first) (D.tells disks.second) (λ base.
-        IsWholeOutput issuing base F.tells result.0 (F.input shelf.old input.now) (F.output shelf.new output.now)) }
+        IsWholeOutput files.entry.issuing base F.tells result.0 (F.input shelf.old files.entry.input.now) (F.output shelf.new files.entry.output.now)) }
     ensures usage { result.0 ≢ Status.Usage }
     ensures only_synced { IsUnsound result.0 → OnlySynced (D.tells disks.first) (D.tells result.1.first) × OnlySynced (D.tells disks.second) (D.tells result.1.second) }
     ensures read_fault { result.0 ≡ Status.ReadFault → Rose (F.source_faults shelf.old) (F.source_faults shelf.new) }
     ensures write_fault { result.0 ≡ Status.WriteFault → Rose (F.sink_faults shelf.old) (F.sink_faults shelf.new) }
     ensures disk_fault { result.0 ≡ Status.DiskFault → RoseEither (D.faults disks.first) (D.faults result.1.first) (D.faults disks.second) (D.faults result.1.second) }
-    ensures too_long { result.0 ≡ Status.InputTooLong → IfSome (F.input shelf.old input.now) (λ bytes. longest_input < length bytes) }
-    ensures not_too_long { IsTrue (is_whole result.0) → IfSome (F.input shelf.old input.now) (λ bytes. length bytes ≤ longest_input) }
+    ensures too_long { result.0 ≡ Status.InputTooLong → IfSome (F.input shelf.old files.entry.input.now) (λ bytes. longest_input < length bytes) }
+    ensures not_too_long { IsTrue (is_whole result.0) → IfSome (F.input shelf.old files.entry.input.now) (λ bytes. length bytes ≤ longest_input) }
     ensures inputs { SameBytes (F.input shelf.old) (F.input shelf.new) }
     ensures handed_back { OpensNone (F.is_open shelf.old) (F.is_open shelf.new) }
     ensures source_faults { F.source_faults shelf.old ≤ F.source_faults shelf.new }
@@ -289,6 +278,11 @@ fn script_on<F: Shelf, D: Disk>(
     ensures first_faults { D.faults disks.first ≤ D.faults result.1.first }
     ensures second_faults { D.faults disks.second ≤ D.faults result.1.second }
 {
+    let Files {
+        issuing,
+        input,
+        output,
+    } = files;
     match Desk::open(alloc, disks) {
         Ok(desk) => {
             let (status, desk) = script_between(alloc, issuing, input, output, shelf, desk);

@@ -30,7 +30,7 @@ returns-in-Ok-clause-checks g c =
             ran =
                 runs_unfailed g.F.Shelf.source_gives g.F.Shelf.sink_gives g.F.Shelf.take_back_gives g.F.Shelf.give_back_gives g.F.Shelf.tells g.F.Shelf.output
                 (Rose (g.F.Shelf.source_faults c.args.shelf.now) (g.F.Shelf.source_faults ran.new.shelf)) (Rose (g.F.Shelf.sink_faults c.args.shelf.now) (g.F.Shelf.sink_faults ran.new.shelf))
-                _ c.args.issuing base (g.F.Shelf.input c.args.shelf.now c.args.input.now) c.in-Ok.desk.store ran.result.1 ran.ensures.halted
+                _ c.args.files.issuing base (g.F.Shelf.input c.args.shelf.now c.args.files.input.now) c.in-Ok.desk.store ran.result.1 ran.ensures.halted
                 ran.result.0 _ _ c.args.shelf.now ran.new.shelf ran.ensures.runs;
           });
       whole = λ is. record { base = base; stood = stood; ran = ran.ensures.whole is };

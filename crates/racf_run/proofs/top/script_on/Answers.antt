@@ -13,7 +13,7 @@ returns-in-Ok-clause-runs g c =
     let start = c.in-Ok.desk.store in
     let desk = c.script_between-status.result.1 in
     let back : HandsBack desk.store c.into_disks.result.first c.into_disks.result.second = record { first = c.into_disks.ensures.first; second = c.into_disks.ensures.second } in
-    let input = g.F.Shelf.input c.args.shelf.now c.args.input.now in
+    let input = g.F.Shelf.input c.args.shelf.now c.args.files.input.now in
     let faults = g.D.Disk.faults in
     let rose : Type 0 = RoseEither (faults c.args.disks.first) (faults c.into_disks.result.first) (faults c.args.disks.second) (faults c.into_disks.result.second) in
     let fault : desk.halted ≡ true → rose =
@@ -29,8 +29,8 @@ returns-in-Ok-clause-runs g c =
         opens_on tells start (tells c.args.disks.first) (tells c.args.disks.second) c.in-Ok.ensures.first_moments c.in-Ok.ensures.second_moments c.in-Ok.ensures.joint,
         RunsOnShelf-weaker g.F.Shelf.source_gives g.F.Shelf.sink_gives g.F.Shelf.take_back_gives g.F.Shelf.give_back_gives g.F.Shelf.tells g.F.Shelf.output
             (Rose (g.F.Shelf.source_faults c.args.shelf.now) (g.F.Shelf.source_faults c.script_between-status.new.shelf)) (Rose (g.F.Shelf.sink_faults c.args.shelf.now) (g.F.Shelf.sink_faults c.script_between-status.new.shelf))
-            (EndsAt tells c.args.issuing c.in-Ok.desk.position input start desk) (EndsOn c.args.issuing c.in-Ok.desk.position input (opened_on tells start) (tells c.into_disks.result.first) (tells c.into_disks.result.second) rose) c.in-Ok.desk.position
-            (ends_on tells c.args.issuing c.in-Ok.desk.position input start desk c.into_disks.result.first c.into_disks.result.second back c.script_between-status.ensures.idle rose fault)
+            (EndsAt tells c.args.files.issuing c.in-Ok.desk.position input start desk) (EndsOn c.args.files.issuing c.in-Ok.desk.position input (opened_on tells start) (tells c.into_disks.result.first) (tells c.into_disks.result.second) rose) c.in-Ok.desk.position
+            (ends_on tells c.args.files.issuing c.in-Ok.desk.position input start desk c.into_disks.result.first c.into_disks.result.second back c.script_between-status.ensures.idle rose fault)
             c.script_between-status.result.0 _ _ c.args.shelf.now c.script_between-status.new.shelf c.script_between-status.ensures.runs,
       );
     })

@@ -7,8 +7,8 @@ use Rattle.desk_rules.specs.Outcome.{most_number}
 use Rattle.racf_desk.proofs.DeskLaws.{kept_takes, rests_there, next_epoch, checkpoint_stays, checkpoint_leaves, checkpoint_said, checkpoint_kept, checkpoint_done, checkpoint_last}
 use Rattle.racf_desk.proofs.desk.Desk.compact.Goals as goal
 
-pub compact-requires : goal.compact-requires
-compact-requires g c = record {
+pub compact-written-requires : goal.compact-written-requires
+compact-written-requires g c = record {
   ready = kept_takes g.D.Disk.tells c.self.inside c.args.self.now c.self.invariant c.self.view_is c.requires.settled c.requires.running;
   lawful = subst AreLawful (sym c.in_ok-rows.ensures.rows) c.in_ok-rows.ensures.lawful;
   number = subst (λ n. n ≤ most_number) (sym (c.generation.ensures ∙ ap (λ (i : Imaged). i.generation) c.deref.ensures)) c.self.invariant.image.number;
@@ -25,8 +25,8 @@ invariant_of-self-in-Ok g c =
     let desk = c.self.inside in
     let counts = c.generation.ensures ∙ ap (λ (i : Imaged). i.generation) c.deref.ensures in
     let said = c.in-Ok.ensures in
-    checkpoint_kept g.D.Disk.tells desk c.args.self.now c.self.invariant c.self.view_is c.requires.running c.requires.settled c.compact.new.self c.generation.result c.in_ok-rows.rows counts c.in_ok-rows.ensures.rows
-    (record { done = said.done; lawful = said.lawful; start = said.start; gate = said.gate; epoch = next_epoch _ _ said.epoch; last = λ is. (c.compact.ensures.last is).1 })
+    checkpoint_kept g.D.Disk.tells desk c.args.self.now c.self.invariant c.self.view_is c.requires.running c.requires.settled c.compact-written.new.self c.generation.result c.in_ok-rows.rows counts c.in_ok-rows.ensures.rows
+    (record { done = said.done; lawful = said.lawful; start = said.start; gate = said.gate; epoch = next_epoch _ _ said.epoch; last = λ is. (c.compact-written.ensures.last is).1 })
     c.gate-self-inside.result c.gate-self-inside.ensures
 
 pub returns-in-Ok-clause-done : goal.returns-in-Ok-clause-done
@@ -34,8 +34,8 @@ returns-in-Ok-clause-done g c =
     let desk = c.self.inside in
     let counts = c.generation.ensures ∙ ap (λ (i : Imaged). i.generation) c.deref.ensures in
     let said = c.in-Ok.ensures in
-    checkpoint_done g.D.Disk.tells desk c.args.self.now c.self.invariant c.self.view_is c.requires.running c.requires.settled c.compact.new.self c.generation.result c.in_ok-rows.rows counts c.in_ok-rows.ensures.rows
-    (record { done = said.done; lawful = said.lawful; start = said.start; gate = said.gate; epoch = next_epoch _ _ said.epoch; last = λ is. (c.compact.ensures.last is).1 })
+    checkpoint_done g.D.Disk.tells desk c.args.self.now c.self.invariant c.self.view_is c.requires.running c.requires.settled c.compact-written.new.self c.generation.result c.in_ok-rows.rows counts c.in_ok-rows.ensures.rows
+    (record { done = said.done; lawful = said.lawful; start = said.start; gate = said.gate; epoch = next_epoch _ _ said.epoch; last = λ is. (c.compact-written.ensures.last is).1 })
     c.gate-self-inside.result c.gate-self-inside.ensures
 
 pub returns-in-Ok-clause-last : goal.returns-in-Ok-clause-last
@@ -43,8 +43,8 @@ returns-in-Ok-clause-last g c =
     let desk = c.self.inside in
     let counts = c.generation.ensures ∙ ap (λ (i : Imaged). i.generation) c.deref.ensures in
     let said = c.in-Ok.ensures in
-    checkpoint_last g.D.Disk.tells desk c.args.self.now c.self.invariant c.self.view_is c.requires.running c.requires.settled c.compact.new.self c.generation.result c.in_ok-rows.rows counts c.in_ok-rows.ensures.rows
-    (record { done = said.done; lawful = said.lawful; start = said.start; gate = said.gate; epoch = next_epoch _ _ said.epoch; last = λ is. (c.compact.ensures.last is).1 })
+    checkpoint_last g.D.Disk.tells desk c.args.self.now c.self.invariant c.self.view_is c.requires.running c.requires.settled c.compact-written.new.self c.generation.result c.in_ok-rows.rows counts c.in_ok-rows.ensures.rows
+    (record { done = said.done; lawful = said.lawful; start = said.start; gate = said.gate; epoch = next_epoch _ _ said.epoch; last = λ is. (c.compact-written.ensures.last is).1 })
     c.gate-self-inside.result c.gate-self-inside.ensures
 
 pub returns-in-Ok-clause-leaves : goal.returns-in-Ok-clause-leaves
@@ -52,8 +52,8 @@ returns-in-Ok-clause-leaves g c =
     let desk = c.self.inside in
     let counts = c.generation.ensures ∙ ap (λ (i : Imaged). i.generation) c.deref.ensures in
     let said = c.in-Ok.ensures in
-    checkpoint_leaves g.D.Disk.tells desk c.args.self.now c.self.invariant c.self.view_is c.requires.running c.requires.settled c.compact.new.self c.generation.result c.in_ok-rows.rows counts c.in_ok-rows.ensures.rows
-    (record { done = said.done; lawful = said.lawful; start = said.start; gate = said.gate; epoch = next_epoch _ _ said.epoch; last = λ is. (c.compact.ensures.last is).1 })
+    checkpoint_leaves g.D.Disk.tells desk c.args.self.now c.self.invariant c.self.view_is c.requires.running c.requires.settled c.compact-written.new.self c.generation.result c.in_ok-rows.rows counts c.in_ok-rows.ensures.rows
+    (record { done = said.done; lawful = said.lawful; start = said.start; gate = said.gate; epoch = next_epoch _ _ said.epoch; last = λ is. (c.compact-written.ensures.last is).1 })
     c.gate-self-inside.result c.gate-self-inside.ensures c.what_is_stored_is_said.ensures
 
 pub returns-in-Ok-clause-checkpoint : goal.returns-in-Ok-clause-checkpoint
@@ -61,24 +61,24 @@ returns-in-Ok-clause-checkpoint g c =
     let desk = c.self.inside in
     let counts = c.generation.ensures ∙ ap (λ (i : Imaged). i.generation) c.deref.ensures in
     let said = c.in-Ok.ensures in
-    checkpoint_said g.D.Disk.tells desk c.args.self.now c.self.invariant c.self.view_is c.requires.running c.requires.settled c.compact.new.self c.generation.result c.in_ok-rows.rows counts c.in_ok-rows.ensures.rows
-    (record { done = said.done; lawful = said.lawful; start = said.start; gate = said.gate; epoch = next_epoch _ _ said.epoch; last = λ is. (c.compact.ensures.last is).1 })
+    checkpoint_said g.D.Disk.tells desk c.args.self.now c.self.invariant c.self.view_is c.requires.running c.requires.settled c.compact-written.new.self c.generation.result c.in_ok-rows.rows counts c.in_ok-rows.ensures.rows
+    (record { done = said.done; lawful = said.lawful; start = said.start; gate = said.gate; epoch = next_epoch _ _ said.epoch; last = λ is. (c.compact-written.ensures.last is).1 })
     c.gate-self-inside.result c.gate-self-inside.ensures c.what_is_stored_is_said.ensures
 
 pub returns-in-Ok-clause-moments : goal.returns-in-Ok-clause-moments
 returns-in-Ok-clause-moments g c =
     let counts = c.generation.ensures ∙ ap (λ (i : Imaged). i.generation) c.deref.ensures in
-    checkpoint_stays g.D.Disk.tells c.self.inside c.args.self.now c.self.invariant c.self.view_is c.requires.running c.requires.settled c.compact.new.self c.generation.result c.in_ok-rows.rows counts c.in_ok-rows.ensures.rows c.compact.ensures.moments
+    checkpoint_stays g.D.Disk.tells c.self.inside c.args.self.now c.self.invariant c.self.view_is c.requires.running c.requires.settled c.compact-written.new.self c.generation.result c.in_ok-rows.rows counts c.in_ok-rows.ensures.rows c.compact-written.ensures.moments
 
 -- a disk failed
 pub returns-in-Err-DiskFault-clause-moments : goal.returns-in-Err-DiskFault-clause-moments
 returns-in-Err-DiskFault-clause-moments g c =
     let counts = c.generation.ensures ∙ ap (λ (i : Imaged). i.generation) c.deref.ensures in
-    checkpoint_stays g.D.Disk.tells c.self.inside c.args.self.now c.self.invariant c.self.view_is c.requires.running c.requires.settled c.compact.new.self c.generation.result c.in_ok-rows.rows counts c.in_ok-rows.ensures.rows c.compact.ensures.moments
+    checkpoint_stays g.D.Disk.tells c.self.inside c.args.self.now c.self.invariant c.self.view_is c.requires.running c.requires.settled c.compact-written.new.self c.generation.result c.in_ok-rows.rows counts c.in_ok-rows.ensures.rows c.compact-written.ensures.moments
 
 -- there was no memory for its image
-pub returns : goal.returns
-returns g c =
+pub returns-in-Err : goal.returns-in-Err
+returns-in-Err g c =
     let counts = c.generation.ensures ∙ ap (λ (i : Imaged). i.generation) c.deref.ensures in
     record {
       done = tt;
@@ -88,7 +88,7 @@ returns g c =
       last = λ is. tt;
       leaves = tt;
       checkpoint = tt;
-      moments = checkpoint_stays g.D.Disk.tells c.self.inside c.args.self.now c.self.invariant c.self.view_is c.requires.running c.requires.settled c.compact.new.self c.generation.result c.in_ok-rows.rows counts c.in_ok-rows.ensures.rows c.compact.ensures.moments;
+      moments = checkpoint_stays g.D.Disk.tells c.self.inside c.args.self.now c.self.invariant c.self.view_is c.requires.running c.requires.settled c.compact-written.new.self c.generation.result c.in_ok-rows.rows counts c.in_ok-rows.ensures.rows c.compact-written.ensures.moments;
       live = search rules;
       fault = search rules;
       halted = search rules;

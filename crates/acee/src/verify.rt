@@ -113,7 +113,7 @@ pub fn is_active(image: &Image, class: Id) -> bool
     ensures { result ≡ is_active class image.now.state.rows }
 {
     match image.class(class) {
-        Some(flags) => flags.active,
+        Some(options) => options.active,
         None => false,
     }
 }

@@ -83,7 +83,7 @@ AUDIT SUCCESS MGR FACILITY BPX.SUPERUSER READ
 const ACCEPTED: u64 = 17;
 
 /// Where the first gate stands in the file of a new database.
-const START: usize = 346;
+const START: usize = 360;
 
 /// How a deck ended at a desk, and what is left of it.
 #[derive(Drop)]

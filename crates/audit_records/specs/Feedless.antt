@@ -41,6 +41,7 @@ abbrev pub IsFeedlessMember : Member → Type 0
 IsFeedlessMember (member.Access resources level) = IsFeedless resources.text
 IsFeedlessMember (member.SecurityLevel name number) = IsFeedless name
 IsFeedlessMember (member.Category name) = IsFeedless name
+IsFeedlessMember (member.Traits traits) = Unit {0}
 
 pub record IsFeedlessProfile (profile : Profile) : Type 0 where
   pub name : IsFeedless profile.name.text

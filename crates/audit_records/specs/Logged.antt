@@ -6,8 +6,8 @@ use Rattle.access_levels.specs.Level.{level_rank}
 use Rattle.racf_profiles.specs.declared.class_rows.LogOption.{LogOption}
 use Rattle.racf_profiles.specs.declared.class_rows.LogOption.TheVariants as log
 use Rattle.racf_profiles.specs.State.{State}
-use Rattle.raclist_image.specs.declared.flags.ClassFlags.{ClassFlags}
-use Rattle.raclist_image.specs.Flags.{flags_of}
+use Rattle.raclist_image.specs.declared.flags.ClassOptions.{ClassOptions}
+use Rattle.raclist_image.specs.Flags.{options_of}
 use Rattle.acee.specs.declared.acee.Acee.{Acee}
 use Rattle.decision.specs.declared.outcome.Rule.{Rule}
 use Rattle.decision.specs.declared.outcome.Rule.TheVariants as rule
@@ -81,4 +81,4 @@ module _ (option : LogOption) (acee : Acee) (asked : Level) (fast : Bool) (decis
 
 -- What isn't a class has no log option, and is never logged.
 unfoldable pub logged : State → Acee → (class : List ℕ) → (asked : Level) → (fast : Bool) → Decision → Bool
-logged state acee class asked fast decision = option_map_or (λ (flags : ClassFlags). logged_under flags.log acee asked fast decision) (flags_of class state) false
+logged state acee class asked fast decision = option_map_or (λ (options : ClassOptions). logged_under options.log acee asked fast decision) (options_of class state) false

@@ -24,7 +24,7 @@ pub fn logged(
     ensures { result ≡ logged image.now.state acee.now request.now.class request.now.asked fast decision.now }
 {
     match image.class(request.class) {
-        Some(flags) => is_logged(flags.log, acee, request.asked, fast, decision),
+        Some(options) => is_logged(options.log, acee, request.asked, fast, decision),
         None => false,
     }
 }

@@ -35,10 +35,7 @@ within_is : (found : Reading) → found.gate < 2 ^ 28 → ends_within found ≡ 
 within_is found within = cond-true (ltb found.gate (2 ^ 28)) _ _ (lt-ltb found.gate (2 ^ 28) within)
 
 -- a file of these fields and this image, whatever stands behind them
-module _ (epoch number : ℕ) (rows : Rows) (rest : List ℕ) where
-  abbrev image : List ℕ
-  image = image_of rows
-
+module _ (epoch number : ℕ) (image rest : List ℕ) where
   abbrev size : ℕ
   size = length image
 
@@ -71,7 +68,7 @@ module _ (epoch number : ℕ) (rows : Rows) (rest : List ℕ) where
   unfolding fields
   end_is = sym (drop-drop size 33 whole) ∙ drop_at image rest size refl
 
-  module _ (stored : rows_of image ≡ Ok rows) (positive : 0 < epoch) (epoch_fits : epoch < 2 ^ 64) (number_fits : number ≤ 2 ^ 62) (short : length whole ≤ 2 ^ 28) where
+  module _ (rows : Rows) (stored : rows_of image ≡ Ok rows) (positive : 0 < epoch) (epoch_fits : epoch < 2 ^ 64) (number_fits : number ≤ 2 ^ 62) (short : length whole ≤ 2 ^ 28) where
     whole_head : head_of whole ≡ Ok (record { epoch = epoch; number = number; start = 33 + size })
     whole_head = head_read whole epoch number size (epoch_is epoch_fits) (number_is (omega arith)) (size_is (omega (arith, whole_length, short))) positive number_fits (omega (arith, whole_length)) (omega (arith, whole_length)) short
 
@@ -83,43 +80,43 @@ module _ (epoch number : ℕ) (rows : Rows) (rest : List ℕ) where
     whole_says found reads within = contents-whole whole (record { epoch = epoch; number = number; start = 33 + size }) rows found whole_head whole_rows (ap records_read reads ∙ within_is found within)
 
 -- records behind an image
-pub journal_says : (epoch number : ℕ) (rows : Rows) (records : List (List ℕ)) (file : List ℕ) → rows_of (image_of rows) ≡ Ok rows → 0 < epoch → epoch < 2 ^ 64 → number ≤ 2 ^ 62
-    → (33 + length (image_of rows)) + length (spelled records) < 2 ^ 28 → length file ≤ 2 ^ 28 → ReadsAs (with_image epoch number rows) records file → contents file ≡ Ok (with_records epoch number rows records)
+pub journal_says : (epoch number : ℕ) (image : List ℕ) (rows : Rows) (records : List (List ℕ)) (file : List ℕ) → rows_of image ≡ Ok rows → 0 < epoch → epoch < 2 ^ 64 → number ≤ 2 ^ 62
+    → (33 + length image) + length (spelled records) < 2 ^ 28 → length file ≤ 2 ^ 28 → ReadsAs (with_image epoch number image) records file → contents file ≡ Ok (with_records epoch number rows (33 + length image) records)
 unfolding fields
-journal_says epoch number rows records file stored positive epoch_fits number_fits fits short reads =
-    let front : List ℕ = with_image epoch number rows in
+journal_says epoch number image rows records file stored positive epoch_fits number_fits fits short reads =
+    let front : List ℕ = with_image epoch number image in
     let rest : List ℕ = drop (length front) file in
-    let size : length front ≡ 33 + length (image_of rows) = omega arith in
+    let size : length front ≡ 33 + length image = omega arith in
     let split : file ≡ front ++ rest = sym (take-append-drop (length front) file) ∙ ap (λ (l : List ℕ). l ++ rest) reads.front_stays in
-    let found : Reading = record { records = records; gate = (33 + length (image_of rows)) + length (spelled records) } in
-    let read : reading (33 + length (image_of rows)) (front ++ rest) ≡ Ok found =
+    let found : Reading = record { records = records; gate = (33 + length image) + length (spelled records) } in
+    let read : reading (33 + length image) (front ++ rest) ≡ Ok found =
     ap (λ n. reading n (front ++ rest)) (sym size) ∙ ap (reading (length front)) (sym split) ∙ reads.reads ∙ ap (λ n. Ok (record { records = records; gate = n + length (spelled records) })) size in
-    ap contents split ∙ whole_says epoch number rows rest stored positive epoch_fits number_fits (subst (λ (l : List ℕ). length l ≤ 2 ^ 28) split short) found read fits
+    ap contents split ∙ whole_says epoch number image rest rows stored positive epoch_fits number_fits (subst (λ (l : List ℕ). length l ≤ 2 ^ 28) split short) found read fits
 
 -- and its file counts
-pub journal_counts : (epoch number : ℕ) (rows : Rows) (records : List (List ℕ)) (file : List ℕ) → epoch < 2 ^ 64 → ReadsAs (with_image epoch number rows) records file → Counts epoch file
+pub journal_counts : (epoch number : ℕ) (image : List ℕ) (records : List (List ℕ)) (file : List ℕ) → epoch < 2 ^ 64 → ReadsAs (with_image epoch number image) records file → Counts epoch file
 unfolding fields
-journal_counts epoch number rows records file fits reads =
-    let front : List ℕ = with_image epoch number rows in
+journal_counts epoch number image records file fits reads =
+    let front : List ℕ = with_image epoch number image in
     let rest : List ℕ = drop (length front) file in
     let split : file ≡ front ++ rest = sym (take-append-drop (length front) file) ∙ ap (λ (l : List ℕ). l ++ rest) reads.front_stays in
     record {
       formatted = ap is_formatted split;
       opened = ap head_is_open split;
-      epoch_is = ap epoch_of split ∙ epoch_is epoch number rows rest fits;
+      epoch_is = ap epoch_of split ∙ epoch_is epoch number image rest fits;
     }
 
 -- a new file
 new_epoch : (epoch number : ℕ) (rows : Rows) → epoch < 2 ^ 64 → epoch_of (new_file epoch number rows) ≡ epoch
 unfolding new_body
-new_epoch epoch number rows fits = epoch_is epoch number rows (0 ∷ []) fits
+new_epoch epoch number rows fits = epoch_is epoch number (image_of rows) (0 ∷ []) fits
 
 pub new_says : (epoch number : ℕ) (rows : Rows) → rows_of (image_of rows) ≡ Ok rows → 0 < epoch → epoch < 2 ^ 64 → number ≤ 2 ^ 62 → 34 + length (image_of rows) ≤ 2 ^ 28 → contents (new_file epoch number rows) ≡ Ok (new_checkpoint epoch number rows)
 unfolding new_body fields
 new_says epoch number rows stored positive epoch_fits number_fits size_fits =
     let start : ℕ = 33 + length (image_of rows) in
-    whole_says epoch number rows (0 ∷ []) stored positive epoch_fits number_fits (omega (arith, whole_length epoch number rows (0 ∷ []), size_fits)) (record { records = []; gate = start })
-    (reading_behind start (new_file epoch number rows) (omega arith) ∙ ap (walk 0 start) (end_is epoch number rows (0 ∷ []))) (omega (arith, size_fits))
+    whole_says epoch number (image_of rows) (0 ∷ []) rows stored positive epoch_fits number_fits (omega (arith, whole_length epoch number (image_of rows) (0 ∷ []), size_fits)) (record { records = []; gate = start })
+    (reading_behind start (new_file epoch number rows) (omega arith) ∙ ap (walk 0 start) (end_is epoch number (image_of rows) (0 ∷ []))) (omega (arith, size_fits))
 
 -- ---- beside another file
 -- an open file of a greater epoch counts

@@ -2,7 +2,7 @@
 use Rattle.std.proofs.Common.{◌≡◌, ℕ, List, [], ◌∷◌, ◌++◌, Some, None, Ok, Err, Result, false, refl, replicate, take}
 use Rattle.std.specs.Prelude.{codes}
 use Rattle.racf_profiles.specs.NewDatabase.{new_database}
-use Rattle.database_image.specs.Description.{options, group, connection, user, profile, class, image}
+use Rattle.database_image.specs.Description.{options, group, connection, user, profile, class, image_by}
 use Rattle.database_image.specs.Forms.{spelled_at}
 use Rattle.database_image.specs.Image.{image_of, first_pass, second_pass, rows_of}
 use Rattle.checkpoint_disks.specs.declared.counting.Side.TheVariants.{First, Second}
@@ -101,36 +101,45 @@ unfolding contents head_of number_at epoch_of
 number_above = refl
 
 no_image : contents (with_head 1 (small 1 ++ small 0 ++ small 0)) ≡ fails (Damaged 33)
-unfolding contents head_of number_at epoch_of spelled_at rows_of first_pass second_pass image options
+unfolding contents head_of number_at epoch_of spelled_at rows_of first_pass second_pass image_by options
 no_image = refl
 
--- ---- whole files: a new database, at epoch 2, with this behind its image of 313 bytes
+-- ---- whole files: a new database, at epoch 2, with this behind its image of 327 bytes
 abbrev new_with : List ℕ → List ℕ
-new_with behind = with_head 1 (small 2 ++ small 5 ++ zeros 6 ++ 1 ∷ 57 ∷ image_of new_database ++ behind)
+new_with behind = with_head 1 (small 2 ++ small 5 ++ zeros 6 ++ 1 ∷ 71 ∷ image_of new_database ++ behind)
 
 -- a record of two bytes
 abbrev ab : List ℕ
 ab = 0 ∷ 0 ∷ 0 ∷ 2 ∷ codes "AB"
 
-abbrev says : List (List ℕ) → ℕ → Result CheckpointRead CheckpointFault
-says records gate = Ok (record { epoch = 2; number = 5; rows = new_database; start = 346; records = records; gate = gate })
+abbrev says : (start : ℕ) → List (List ℕ) → (gate : ℕ) → Result CheckpointRead CheckpointFault
+says start records gate = Ok (record { epoch = 2; number = 5; rows = new_database; start = start; records = records; gate = gate })
 
-no_record : contents (new_with (0 ∷ [])) ≡ says [] 346
-unfolding contents head_of number_at epoch_of spelled_at rows_of first_pass second_pass image_of image options group user connection class profile
+no_record : contents (new_with (0 ∷ [])) ≡ says 360 [] 360
+unfolding contents head_of number_at epoch_of spelled_at rows_of first_pass second_pass image_of image_by options group user connection class profile
 no_record = refl
 
-no_gate_behind : contents (new_with []) ≡ says [] 346
-unfolding contents head_of number_at epoch_of spelled_at rows_of first_pass second_pass image_of image options group user connection class profile
+no_gate_behind : contents (new_with []) ≡ says 360 [] 360
+unfolding contents head_of number_at epoch_of spelled_at rows_of first_pass second_pass image_of image_by options group user connection class profile
 no_gate_behind = refl
 
-one_record : contents (new_with (1 ∷ ab ++ 0 ∷ [])) ≡ says (ab ∷ []) 353
-unfolding contents head_of number_at epoch_of spelled_at rows_of first_pass second_pass image_of image options group user connection class profile
+one_record : contents (new_with (1 ∷ ab ++ 0 ∷ [])) ≡ says 360 (ab ∷ []) 367
+unfolding contents head_of number_at epoch_of spelled_at rows_of first_pass second_pass image_of image_by options group user connection class profile
 one_record = refl
 
-record_in_part : contents (new_with (1 ∷ take 5 ab)) ≡ fails (Damaged 346)
-unfolding contents head_of number_at epoch_of spelled_at rows_of first_pass second_pass image_of image options group user connection class profile
+record_in_part : contents (new_with (1 ∷ take 5 ab)) ≡ fails (Damaged 360)
+unfolding contents head_of number_at epoch_of spelled_at rows_of first_pass second_pass image_of image_by options group user connection class profile
 record_in_part = refl
 
+-- the same of before there was the class CDT, whose image of 313 bytes is without it: it is read with the class, and its
+-- records stand where they were
+abbrev old_with : List ℕ → List ℕ
+old_with behind = with_head 1 (small 2 ++ small 5 ++ zeros 6 ++ 1 ∷ 57 ∷ image_of (record new_database { classes = take 14 new_database.classes }) ++ behind)
+
+old_image : contents (old_with (1 ∷ ab ++ 0 ∷ [])) ≡ says 346 (ab ∷ []) 353
+unfolding contents head_of number_at epoch_of spelled_at rows_of first_pass second_pass image_of image_by options group user connection class profile
+old_image = refl
+
 written : new_file 2 5 new_database ≡ new_with (0 ∷ [])
-unfolding new_body fields image_of image options group user connection class profile
+unfolding new_body fields image_of image_by options group user connection class profile
 written = refl

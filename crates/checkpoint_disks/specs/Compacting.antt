@@ -2,7 +2,7 @@
 use Rattle.std.specs.Prelude.{ℕ, ◌+◌, ◌<◌, ◌≤◌, ◌^◌, ◌≡◌, ◌⊎◌, true, false, List, [], ◌∷◌, ◌++◌, length, drop, Result, Ok}
 use Rattle.byteorder.specs.Endian.{big_bytes}
 use Rattle.racf_profiles.specs.declared.rows.Rows.{Rows}
-use Rattle.database_image.specs.Image.{image_of, IsStored}
+use Rattle.database_image.specs.Image.{AreImageOf, image_of, rows_of, IsStored}
 use Rattle.racf_journal.specs.Kept.{ReadsAs}
 use Rattle.racf_journal.specs.Reading.{spelled}
 use Rattle.racf_outside.specs.Moments.{Moment, durable}
@@ -42,30 +42,35 @@ new_checkpoint epoch number rows = record {
   gate = 33 + length (image_of rows);
 }
 
--- what stands in front of its journal
-abbrev pub with_image : (epoch number : ℕ) → Rows → List ℕ
-with_image epoch number rows = with_head 1 (fields epoch number (length (image_of rows)) ++ image_of rows)
+-- what stands in front of a journal: the fields, and an image, which may be one of before there was the class CDT
+abbrev pub with_image : (epoch number : ℕ) → (image : List ℕ) → List ℕ
+with_image epoch number image = with_head 1 (fields epoch number (length image) ++ image)
 
--- what such a file says once these records stand in its journal
-abbrev pub with_records : (epoch number : ℕ) → Rows → (records : List (List ℕ)) → CheckpointRead
-with_records epoch number rows records = record {
+-- what a file says of whose image these rows are read, and behind which these records stand from that place on
+abbrev pub with_records : (epoch number : ℕ) → Rows → (start : ℕ) → (records : List (List ℕ)) → CheckpointRead
+with_records epoch number rows start records = record {
   epoch = epoch;
   number = number;
   rows = rows;
-  start = 33 + length (image_of rows);
+  start = start;
   records = records;
-  gate = (33 + length (image_of rows)) + length (spelled records);
+  gate = start + length (spelled records);
 }
 
--- What a file may say: a checkpoint that is written as such, with the places that follow of its rows and its records.
+-- What a file may say: a checkpoint that is written as such, with the places that follow of its image and its records.
+-- The image is that of the rows, or that of before there was the class CDT.
 pub record IsCheckpoint (read : CheckpointRead) : Type 0 where
   pub some : 0 < read.epoch
   pub epoch : read.epoch < 2 ^ 64
   pub number : read.number ≤ 2 ^ 62
   pub stored : IsStored read.rows
-  pub size : length (image_of read.rows) < 2 ^ 64
+  pub image : List ℕ
+  pub image_is : AreImageOf image read.rows
+  pub read_as : rows_of image ≡ Ok read.rows
+  pub size : length image < 2 ^ 64
+  pub start : read.start ≡ 33 + length image
   pub fits : read.gate < 2 ^ 28
-  pub is : read ≡ with_records read.epoch read.number read.rows read.records
+  pub is : read ≡ with_records read.epoch read.number read.rows read.start read.records
 
 -- A file counts with an epoch, beside those that have a lower one.
 pub record Counts (epoch : ℕ) (file : List ℕ) : Type 0 where
@@ -73,11 +78,11 @@ pub record Counts (epoch : ℕ) (file : List ℕ) : Type 0 where
   pub opened : head_is_open file ≡ true
   pub epoch_is : epoch_of file ≡ epoch
 
--- What was read is held: the fields, the image of the rows and the records, in a file that isn't too long.
+-- What was read is held: the fields, the image and the records, in a file that isn't too long.
 pub record IsHeld (read : CheckpointRead) (file : List ℕ) : Type 0 where
   pub lawful : IsCheckpoint read
   pub counts : Counts read.epoch file
-  pub reads : ReadsAs (with_image read.epoch read.number read.rows) read.records file
+  pub reads : ReadsAs (with_image read.epoch read.number lawful.image) read.records file
   pub short : length file ≤ 2 ^ 28
 
 -- ---- one disk

@@ -2,7 +2,7 @@
 
 ghost use Rattle.std.specs.Prelude.{[], ℕ, ◌+◌, ◌<◌, ◌≤◌, ◌≡◌, ◌^◌, true, false, List, Ok, length};
 ghost use Rattle.racf_profiles.specs.declared.rows.Rows.{Rows};
-ghost use Rattle.database_image.specs.Image.{image_of, IsStored};
+ghost use Rattle.database_image.specs.Image.{image_of, rows_of, IsStored};
 ghost use Rattle.racf_journal.specs.Kept.{ReadsAs};
 ghost use Rattle.racf_journal.specs.Reading.{spelled};
 ghost use Rattle.checkpoint_disks.specs.declared.counting.Side.{Side};
@@ -23,16 +23,15 @@ pub fn a_new_file_says_its_checkpoint()
     images_are_of_rows();
 }
 
-/// Behind the fields and an image a journal's records are those of the checkpoint, and its file counts with that epoch.
+/// Behind the fields and an image a journal's records are those of the checkpoint, whose rows are what the image is read
+/// as, and its file counts with that epoch.
 pub fn records_are_read_behind_an_image()
-    ensures says { (epoch number : ℕ) (rows : Rows) (records : List (List ℕ)) (file : List ℕ) → IsStored rows → 0 < epoch → epoch < 2 ^ 64 → number ≤ 2 ^ 62
-        → (33 + length (image_of rows)) + length (spelled records) < 2 ^ 28 → length file ≤ 2 ^ 28
-        → ReadsAs (with_image epoch number rows) records file → contents file ≡ Ok (with_records epoch number rows records) }
-    ensures counts { (epoch number : ℕ) (rows : Rows) (records : List (List ℕ)) (file : List ℕ) → epoch < 2 ^ 64
-        → ReadsAs (with_image epoch number rows) records file → Counts epoch file }
-{
-    images_are_of_rows();
-}
+    ensures says { (epoch number : ℕ) (image : List ℕ) (rows : Rows) (records : List (List ℕ)) (file : List ℕ) → rows_of image ≡ Ok rows → 0 < epoch → epoch < 2 ^ 64 → number ≤ 2 ^ 62
+        → (33 + length image) + length (spelled records) < 2 ^ 28 → length file ≤ 2 ^ 28
+        → ReadsAs (with_image epoch number image) records file → contents file ≡ Ok (with_records epoch number rows (33 + length image) records) }
+    ensures counts { (epoch number : ℕ) (image : List ℕ) (records : List (List ℕ)) (file : List ℕ) → epoch < 2 ^ 64
+        → ReadsAs (with_image epoch number image) records file → Counts epoch file }
+{}
 
 /// What a crash leaves of the disk that doesn't count says, beside a file that counted, what that one says, or the new
 /// checkpoint.

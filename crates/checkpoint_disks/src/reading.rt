@@ -1,7 +1,7 @@
 //! A checkpoint, read from the bytes of a file.
 
 ghost use Rattle.std.specs.Prelude.{◌≡◌, ◌+◌, ◌<◌, ◌≤◌, ◌^◌, ◌⊎◌, true, Ok, length, IfOk, IfErr};
-ghost use Rattle.database_image.specs.Image.{image_of, rows_of, IsStored};
+ghost use Rattle.database_image.specs.Image.{AreImageOf, rows_of, IsStored};
 ghost use Rattle.racf_journal.specs.Reading.{walk};
 ghost use Rattle.checkpoint_disks.specs.Files.{is_formatted, head_is_open, contents, rows_read, records_read, Answers};
 ghost use Rattle.checkpoint_disks.specs.Counting.{as_read};
@@ -60,7 +60,7 @@ pub fn read_file(alloc: Global, bytes: &[u8]) -> Result<Checkpoint, CheckpointFa
 /// The rows of an image.
 fn read_rows(alloc: Global, image: &[u8]) -> Result<Rows, CheckpointFault>
     ensures read { Answers (λ rows. rows) result (rows_read (rows_of image.now)) }
-    ensures found { IfOk result (λ rows. IsStored rows × (image.now ≡ image_of rows)) }
+    ensures found { IfOk result (λ rows. IsStored rows × AreImageOf image.now rows) }
 {
     match database_image::read(alloc, image) {
         Ok(rows) => Ok(rows),

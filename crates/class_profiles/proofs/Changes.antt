@@ -56,8 +56,8 @@ pub entries-le : (name : List ℕ) (n : Spelled) (classes : List ClassRow) → o
 entries-le = part-le (sum_by entries_in) entries_in (λ n ps. sum-drop n entries_in ps)
 
 -- what a profile needs to be put is what its class's table asks
-pub can-put : (name : List ℕ) (items : List ClassWithRoom) (k : ℕ) (c : ClassWithRoom) (p : Profile) → IsAt (of_name name) items k → slice_get items k ≡ Some c
-    → CanPutIn (record { classes = rows_in items; spare = spares items }) name p → CanPut (record { kind = kind_in c.row.name; profiles = c.row.profiles; spare = c.spare }) p
+pub can-put : {classes_more : ℕ} (name : List ℕ) (items : List ClassWithRoom) (k : ℕ) (c : ClassWithRoom) (p : Profile) → IsAt (of_name name) items k → slice_get items k ≡ Some c
+    → CanPutIn (record { classes = rows_in items; spare = spares items; more_classes = classes_more }) name p → CanPut (record { kind = kind_in c.row.name; profiles = c.row.profiles; spare = c.spare }) p
 can-put name items k c p at got can =
     let found = found-at name items k c at got in
     record {
@@ -71,8 +71,8 @@ can-put name items k c p at got can =
     few (Some row) is holds = let same : row ≡ c.row = cc in subst (λ (r : ClassRow). length (put_profile p r.profiles) ≤ most_class_profiles) same holds
 
 -- a profile that can be put, and the class at the place
-module _ (not_both : NotBoth) (passed_on : PassedOn) (name : List ℕ) (items : List ClassWithRoom) (k : ℕ) (c : ClassWithRoom) (p : Profile) (at : IsAt (of_name name) items k) (got : slice_get items k ≡ Some c)
-    (lawful : AreClasses (rows_in items)) (can : CanPutIn (record { classes = rows_in items; spare = spares items }) name p) where
+module _ {classes_more : ℕ} (not_both : NotBoth) (passed_on : PassedOn) (name : List ℕ) (items : List ClassWithRoom) (k : ℕ) (c : ClassWithRoom) (p : Profile) (at : IsAt (of_name name) items k) (got : slice_get items k ≡ Some c)
+    (lawful : AreClasses (rows_in items)) (can : CanPutIn (record { classes = rows_in items; spare = spares items; more_classes = classes_more }) name p) where
   found : find (is_class name) (rows_in items) ≡ Some c.row
   found = found-at name items k c at got
 

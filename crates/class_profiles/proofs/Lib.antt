@@ -3,3 +3,5 @@ mod Pairs
 pub mod Counts
 mod Places
 mod Changes
+mod Dynamic
+mod NewClasses

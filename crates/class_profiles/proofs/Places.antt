@@ -7,7 +7,7 @@ use Rattle.std.proofs.lemmas.Slice.Eq.{bytes_eq-Decides}
 use Rattle.racf_profiles.specs.declared.class_rows.ClassRow.{ClassRow}
 use Rattle.racf_profiles.specs.Lookup.{is_class}
 use Rattle.racf_profiles.specs.Edits.{at_class}
-use Rattle.racf_profiles.specs.LawfulProfiles.{AreClasses, AreProfiles, kind_in}
+use Rattle.racf_profiles.specs.LawfulProfiles.{AreClassNames, AreClasses, AreProfiles, kind_in}
 use Rattle.racf_profiles.proofs.States.{same_class}
 use Rattle.racf_profiles.proofs.Places.{IsAt, at-is, none-is}
 use Rattle.class_profiles.specs.Classes.{ClassWithRoom, room_among}
@@ -106,7 +106,7 @@ module _ (name : List ℕ) (change : ClassRow → ClassRow) where
   pub lawful-at_class : ((row : ClassRow) → (change row).name ≡ row.name) → (row : ClassRow) (classes : List ClassRow) → find (is_class name) classes ≡ Some row → AreProfiles (kind_in (change row).name) (change row).profiles
       → AreClasses classes → AreClasses (at_class name change classes)
   lawful-at_class keeps row classes found holds lawful = record {
-    fixed = names-kept keeps classes ∙ lawful.fixed;
+    names = subst AreClassNames (sym (names-kept keeps classes)) lawful.names;
     lawful = all-changed (λ (c : ClassRow). AreProfiles (kind_in c.name) c.profiles) row classes found holds lawful.lawful;
   }
 

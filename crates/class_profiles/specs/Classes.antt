@@ -1,5 +1,5 @@
 -- All classes with their profiles, what these count together, and when a profile can be put.
-use Rattle.std.specs.Prelude.{◌≡◌, ℕ, ◌<◌, ◌≤◌, Bool, if◌then◌else◌, List, [], ◌∷◌, length, Option, None, IfSome, codes}
+use Rattle.std.specs.Prelude.{◌≡◌, ℕ, ◌<◌, ◌≤◌, Bool, false, if◌then◌else◌, List, [], ◌∷◌, ◌++◌, length, Option, None, IfSome, codes}
 use Rattle.std.specs.List.{find}
 use Rattle.std.specs.Option.{option_map, option_and_then}
 use Rattle.std.specs.Str.{bytes_eq}
@@ -7,20 +7,22 @@ use Rattle.generic_names.specs.Spelled.{Spelled, first_qualifier}
 use Rattle.racf_profiles.specs.declared.profiles.Profile.{Profile}
 use Rattle.racf_profiles.specs.declared.class_rows.ClassRow.{ClassRow}
 use Rattle.racf_profiles.specs.Lookup.{is_class, is_profile}
-use Rattle.racf_profiles.specs.Edits.{put_profile, at_class, with_profile}
+use Rattle.racf_profiles.specs.Edits.{put_profile, at_class, with_profile, added_class}
 use Rattle.racf_profiles.specs.Counts.{profile_count, entry_count}
 use Rattle.racf_profiles.specs.Limits.{most_class_profiles, most_profiles, most_entries_in_all}
-use Rattle.racf_profiles.specs.LawfulProfiles.{kind_in}
+use Rattle.racf_profiles.specs.DynamicClasses.{is_fixed}
+use Rattle.racf_profiles.specs.LawfulProfiles.{AreClassNames, names_of, kind_in}
 
 -- A class, and how many profiles can be added to it without memory.
 pub record ClassWithRoom : Type 0 where
   pub row : ClassRow
   pub spare : ℕ
 
--- The classes in their order, and how many profiles can be added to each without memory.
+-- The classes in their order, how many profiles can be added to each without memory, and how many classes can.
 pub record ClassList : Type 0 where
   pub classes : List ClassRow
   pub spare : List ℕ
+  pub more_classes : ℕ
 
 -- How many profiles can be added to the class of that name without memory.
 abbrev pub room_among : List ℕ → List ClassRow → List ℕ → ℕ
@@ -58,3 +60,13 @@ pub record CanPutIn (list : ClassList) (class : List ℕ) (profile : Profile) : 
   pub few_in_class : IfSome (find (is_class class) list.classes) (λ (row : ClassRow). length (put_profile profile row.profiles) ≤ most_class_profiles)
   pub few : profile_count (at_class class (with_profile profile) list.classes) ≤ most_profiles
   pub few_entries : entry_count (at_class class (with_profile profile) list.classes) ≤ most_entries_in_all
+
+-- There is room for one class more, and its name can stand behind those of the others.
+pub record CanAddClass (list : ClassList) (class : List ℕ) : Type 0 where
+  pub room : 0 < list.more_classes
+  pub names : AreClassNames (names_of (list.classes ++ added_class class ∷ []))
+
+-- The class isn't of the fixed table, and where it is there it has no profiles.
+pub record CanDropClass (list : ClassList) (class : List ℕ) : Type 0 where
+  pub dynamic : is_fixed class ≡ false
+  pub empty : IfSome (find (is_class class) list.classes) (λ (row : ClassRow). row.profiles ≡ [])

@@ -1,5 +1,5 @@
 -- How all classes are kept: each with its profiles, and the counts beside them.
-use Rattle.std.specs.Prelude.{◌≡◌, ◌≤◌, List, map}
+use Rattle.std.specs.Prelude.{◌≡◌, ◌-◌, ◌≤◌, List, map, vec_len, vec_capacity}
 use Rattle.racf_profiles.specs.declared.class_rows.ClassRow.{ClassRow}
 use Rattle.class_profiles.specs.declared.class_tables.ClassTables.TheInside.{Inside}
 use Rattle.racf_profiles.specs.LawfulProfiles.{AreClasses}
@@ -11,7 +11,11 @@ abbrev pub rows_in : List ClassWithRoom → List ClassRow
 rows_in classes = map (λ (class : ClassWithRoom). class.row) classes
 
 abbrev pub class_list : Inside → ClassList
-class_list tables = record { classes = rows_in tables.classes.items; spare = map (λ (class : ClassWithRoom). class.spare) tables.classes.items }
+class_list tables = record {
+  classes = rows_in tables.classes.items;
+  spare = map (λ (class : ClassWithRoom). class.spare) tables.classes.items;
+  more_classes = vec_capacity tables.classes - vec_len tables.classes;
+}
 
 -- The classes are lawful, the counts are theirs, and the limits hold.
 pub record AreSummed (tables : Inside) : Type 0 where

@@ -1,9 +1,9 @@
 //! A class with its profiles.
-ghost use Rattle.std.specs.Prelude.{◌≡◌, ◌+◌, ◌<◌, ◌≤◌, is_some, OnOk, IfOk, if◌then◌else◌};
+ghost use Rattle.std.specs.Prelude.{◌≡◌, ◌+◌, ◌<◌, ◌≤◌, is_some, IsOk, OnOk, IfOk, if◌then◌else◌};
 ghost use Rattle.std.specs.List.{find};
 ghost use Rattle.racf_profiles.specs.NewDatabase.{empty_class};
 ghost use Rattle.racf_profiles.specs.Lookup.{is_profile};
-ghost use Rattle.racf_profiles.specs.Edits.{with_profile, without_profile, with_flags, with_listed};
+ghost use Rattle.racf_profiles.specs.Edits.{with_profile, without_profile, with_flags, with_listed, added_class};
 ghost use Rattle.racf_profiles.specs.LawfulProfiles.{AreProfiles, kind_in};
 ghost use Rattle.class_profiles.specs.Table.{CanPut};
 ghost use Rattle.class_profiles.specs.Classes.{is_under};
@@ -46,7 +46,7 @@ impl Model for ClassTable {
 }
 
 impl ClassTable {
-    /// A class without profiles.
+    /// A fixed class without profiles.
     pub(crate) fn new(
         alloc: Global,
         class: FixedClass,
@@ -61,6 +61,21 @@ impl ClassTable {
             global: false,
             log: LogOption::ByProfile,
             profiles: ProfileTable::new(alloc, kind_in(class.id()))?,
+        })
+    }
+
+    /// A class that is added: not active, without profiles. It takes no memory yet.
+    pub(crate) fn added(alloc: Global, name: Id) -> Result<ClassTable, NoMemory>
+        ensures ok { IsOk result }
+        ensures empty { IfOk result (λ table. table ≡ record { row = added_class name; spare = 0 }) }
+    {
+        Ok(ClassTable {
+            name,
+            active: false,
+            listed: false,
+            global: false,
+            log: LogOption::ByProfile,
+            profiles: ProfileTable::new(alloc, kind_in(name))?,
         })
     }
 

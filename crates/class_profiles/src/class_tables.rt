@@ -1,16 +1,16 @@
 //! All classes with their profiles.
-ghost use Rattle.std.specs.Prelude.{◌≡◌, ℕ, ◌+◌, ◌<◌, ◌≤◌, false, List, position, Some, IsSome, OnOk, IfOk};
+ghost use Rattle.std.specs.Prelude.{◌≡◌, ℕ, ◌+◌, ◌<◌, ◌≤◌, false, List, [], ◌∷◌, ◌++◌, position, Some, IsSome, OnOk, IfOk};
 ghost use Rattle.std.specs.List.{find};
 ghost use Rattle.std.specs.Option.{option_copied, option_map, option_map_or};
 ghost use Rattle.std.specs.Str.{bytes_eq};
 ghost use Rattle.racf_profiles.specs.ClassTable.{is_dataset};
 ghost use Rattle.racf_profiles.specs.NewDatabase.{new_classes};
 ghost use Rattle.racf_profiles.specs.Lookup.{is_class};
-ghost use Rattle.racf_profiles.specs.Edits.{at_class, with_profile, without_profile, with_flags, with_listed};
+ghost use Rattle.racf_profiles.specs.Edits.{at_class, with_profile, without_profile, with_flags, with_listed, added_class, without_class};
 ghost use Rattle.racf_profiles.specs.LawfulProfiles.{AreClasses};
 ghost use Rattle.racf_profiles.specs.Limits.{most_profiles, most_entries_in_all};
 ghost use Rattle.class_profiles.specs.Summed.{rows_in};
-ghost use Rattle.class_profiles.specs.Classes.{room_in, profile_in, first_under, CanPutIn};
+ghost use Rattle.class_profiles.specs.Classes.{room_in, profile_in, first_under, CanPutIn, CanAddClass, CanDropClass};
 ghost use Rattle.racf_profiles.specs.Counts.{entries_in, profile_count, entry_count};
 
 use crate::class_table::ClassTable;
@@ -20,16 +20,19 @@ use racf_profiles::{ClassRows, FixedClass, LogOption, NoMemory, Profile};
 use std::alloc::Global;
 use std::marker::Model;
 
-/// The fixed classes in their order, each with its flags and its profiles. How many profiles there are in all, and how
-/// many entries their access lists have, is kept beside them, so that neither is counted anew for a command.
+/// The fixed classes in their order and behind them the dynamic ones in order of definition, each with its flags and
+/// its profiles. How many profiles there are in all, and how many entries their access lists have, is kept beside them,
+/// so that neither is counted anew for a command.
 #[derive(Drop)]
 pub struct ClassTables {
-    /// The fixed classes in their order.
+    /// The fixed classes in their order, and behind them the dynamic ones.
     classes: Vec<ClassTable>,
     /// How many profiles they have in all.
     count: usize,
     /// How many entries the access lists of these profiles have.
     entries: usize,
+    /// Where the memory of a class that is added comes from.
+    alloc: Global,
 }
 
 impl Model for ClassTables {
@@ -57,6 +60,7 @@ impl ClassTables {
             classes,
             count: 0,
             entries: 0,
+            alloc,
         })
     }
 
@@ -84,7 +88,7 @@ impl ClassTables {
         &self.classes
     }
 
-    /// The class of that name, found among the fourteen by comparing names.
+    /// The class of that name, found by comparing names.
     pub fn class(&self, name: Id) -> Option<&ClassTable>
         ensures { option_map (λ class. class.row) (option_copied result) ≡ find (is_class name) self.now.classes }
     {
@@ -109,6 +113,7 @@ impl ClassTables {
         ensures classes { self.new.classes ≡ self.old.classes }
         ensures room { OnOk result (IsSome (find (is_class class) self.old.classes) → more ≤ room_in class self.new) }
         ensures kept { (name : List ℕ) → room_in name self.old ≤ room_in name self.new }
+        ensures more_classes { self.new.more_classes ≡ self.old.more_classes }
     {
         match place_of(&self.classes, class) {
             Some(place) => self.classes[place].reserve(more),
@@ -123,6 +128,7 @@ impl ClassTables {
         ensures classes { self.new.classes ≡ at_class class (with_profile profile) self.old.classes }
         ensures own { room_in class self.old ≤ room_in class self.new + 1 }
         ensures others { (name : List ℕ) → bytes_eq class name ≡ false → room_in name self.new ≡ room_in name self.old }
+        ensures more_classes { self.new.more_classes ≡ self.old.more_classes }
     {
         generic_names::laws::order_is_total();
         let Some(place) = place_of(&self.classes, class) else {
@@ -139,6 +145,7 @@ impl ClassTables {
     pub fn remove(&mut self, class: Id, name: &Pattern)
         ensures classes { self.new.classes ≡ at_class class (without_profile name.now) self.old.classes }
         ensures kept { (name : List ℕ) → room_in name self.old ≤ room_in name self.new }
+        ensures more_classes { self.new.more_classes ≡ self.old.more_classes }
     {
         let Some(place) = place_of(&self.classes, class) else {
             return;
@@ -149,11 +156,48 @@ impl ClassTables {
         self.classes[place].remove(name);
     }
 
+    /// Makes room for one class more.
+    pub fn reserve_class(&mut self) -> Result<(), NoMemory>
+        ensures classes { self.new.classes ≡ self.old.classes }
+        ensures spare { self.new.spare ≡ self.old.spare }
+        ensures room { OnOk result (0 < self.new.more_classes) }
+        ensures kept { self.old.more_classes ≤ self.new.more_classes }
+    {
+        self.classes.reserve(1)
+    }
+
+    /// Adds a class behind the others, which has no profiles and room for none. It takes no memory.
+    pub fn add(&mut self, class: Id)
+        requires { CanAddClass self.old class }
+        ensures classes { self.new.classes ≡ self.old.classes ++ added_class class ∷ [] }
+        ensures room { (name : List ℕ) → room_in name self.new ≡ room_in name self.old }
+        ensures more_classes { self.new.more_classes + 1 ≡ self.old.more_classes }
+    {
+        let Ok(table) = ClassTable::added(self.alloc, class) else {
+            unreachable!()
+        };
+        self.classes.push_reserved(table);
+    }
+
+    /// Takes a class away that has no profiles and isn't fixed. An unknown class changes nothing.
+    pub fn drop_class(&mut self, class: Id)
+        requires { CanDropClass self.old class }
+        ensures classes { self.new.classes ≡ without_class class self.old.classes }
+        ensures others { (name : List ℕ) → bytes_eq class name ≡ false → room_in name self.new ≡ room_in name self.old }
+        ensures more_classes { self.old.more_classes ≤ self.new.more_classes }
+    {
+        let Some(place) = place_of(&self.classes, class) else {
+            return;
+        };
+        let _gone = self.classes.remove(place);
+    }
+
     /// Sets whether a class is active, whether the global access table is used for it, and its log option. An unknown
     /// class changes nothing.
     pub fn set_flags(&mut self, class: Id, active: bool, global: bool, log: LogOption)
         ensures classes { self.new.classes ≡ at_class class (with_flags active global log) self.old.classes }
         ensures kept { (name : List ℕ) → room_in name self.old ≤ room_in name self.new }
+        ensures more_classes { self.new.more_classes ≡ self.old.more_classes }
     {
         let Some(place) = place_of(&self.classes, class) else {
             return;
@@ -165,6 +209,7 @@ impl ClassTables {
     pub fn set_listed(&mut self, class: Id, listed: bool)
         ensures classes { self.new.classes ≡ at_class class (with_listed listed) self.old.classes }
         ensures kept { (name : List ℕ) → room_in name self.old ≤ room_in name self.new }
+        ensures more_classes { self.new.more_classes ≡ self.old.more_classes }
     {
         let Some(place) = place_of(&self.classes, class) else {
             return;

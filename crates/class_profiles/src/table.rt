@@ -1,5 +1,5 @@
 //! The profiles of one class.
-ghost use Rattle.std.specs.Prelude.{◌≡◌, ◌+◌, ◌<◌, [], length, max, Some, None, is_some, OnOk, OnErr, IfOk, if◌then◌else◌};
+ghost use Rattle.std.specs.Prelude.{◌≡◌, ◌+◌, ◌<◌, [], length, max, Some, None, is_some, IsOk, OnOk, OnErr, IfOk, if◌then◌else◌};
 ghost use Rattle.std.specs.List.{find, slice_get};
 ghost use Rattle.std.specs.Option.{option_copied};
 ghost use Rattle.std.specs.Result.{result_ok};
@@ -42,7 +42,8 @@ impl Model for ProfileTable {
 impl ProfileTable {
     /// No profile. It takes no memory yet.
     pub fn new(alloc: Global, kind: NameKind) -> Result<ProfileTable, NoMemory>
-        ensures { IfOk result (λ table. table ≡ record { kind = kind; profiles = []; spare = 0 }) }
+        ensures ok { IsOk result }
+        ensures empty { IfOk result (λ table. table ≡ record { kind = kind; profiles = []; spare = 0 }) }
     {
         Ok(ProfileTable {
             kind,

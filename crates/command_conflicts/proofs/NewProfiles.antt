@@ -1,5 +1,5 @@
 -- The counts after a profile was put, where it is new, and after one that is there was changed.
-use Rattle.std.proofs.Common.{◌≡◌, ℕ, ◌+◌, ◌≤◌, Bool, true, false, cond, not, ◌||◌, List, [], ◌∷◌, map, Option, None, Some, IsSome, is_some, option_and_then, length, bytes_eq, refl, sym, ap, subst, ◌∙◌, true≢false, arith}
+use Rattle.std.proofs.Common.{◌≡◌, ℕ, ◌+◌, ◌≤◌, Bool, true, false, cond, not, ◌||◌, List, [], ◌∷◌, map, take, Option, None, Some, IsSome, is_some, option_and_then, length, bytes_eq, refl, sym, ap, subst, ◌∙◌, true≢false, arith}
 use Rattle.std.specs.Prelude.{find, sum_by, nat_lt}
 use Rattle.std.specs.Option.{option_map_or}
 use Rattle.std.proofs.lemmas.Bool.{not-false, or_parts}
@@ -15,7 +15,7 @@ use Rattle.racf_profiles.specs.Lookup.{is_class, is_profile, class_of, profile_o
 use Rattle.racf_profiles.specs.Edits.{put_profile, at_class, with_profile}
 use Rattle.racf_profiles.specs.Counts.{profile_count, entry_count, entries_in}
 use Rattle.racf_profiles.specs.ClassTable.{class_name, fixed_classes}
-use Rattle.racf_profiles.specs.LawfulProfiles.{AreClasses, AreProfiles, kind_in}
+use Rattle.racf_profiles.specs.LawfulProfiles.{AreClasses, AreProfiles, kind_in, names_of}
 use Rattle.racf_profiles.proofs.OrderedProfiles.{profile-put}
 use Rattle.racf_profiles.proofs.States.{at_class-found, find-passes}
 use Rattle.std.proofs.lemmas.List.Sums.{sum_by-cons}
@@ -39,11 +39,11 @@ pub class_there : (class : List ℕ) (rows : Rows) → no_resource_class class r
 unfolding no_resource_class
 class_there class rows h = not-false (is_some (class_of class rows)) (or_parts (bytes_eq class dataset) (not (is_some (class_of class rows))) (unmet (bytes_eq class dataset || not (is_some (class_of class rows))) _ h)).1
 
--- DATASET is the first of the classes
+-- DATASET is one of the classes
 pub dataset_there : (rows : Rows) → AreClasses rows.classes → IsSome (class_of dataset rows)
-dataset_there rows lawful = by rows.classes lawful.fixed
+dataset_there rows lawful = by rows.classes lawful.names.fixed
   where
-    by : (classes : List ClassRow) → map (λ (c : ClassRow). c.name) classes ≡ map class_name fixed_classes → IsSome (find (is_class dataset) classes)
+    by : (classes : List ClassRow) → take (length fixed_classes) (names_of classes) ≡ map class_name fixed_classes → IsSome (find (is_class dataset) classes)
     by [] names = cc
     by (c ∷ cs) names =
         let first : c.name ≡ dataset = cc in

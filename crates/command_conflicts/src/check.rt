@@ -2,10 +2,11 @@
 ghost use Rattle.std.specs.Prelude.{◌≡◌};
 ghost use Rattle.std.specs.Result.{result_err};
 ghost use Rattle.command_rules.specs.ProfileEffects.{dataset};
-ghost use Rattle.command_rules.specs.ProfileConflicts.{add_sd_requirements, new_profile_limits, add_sd_conflicts, alt_sd_conflicts, del_sd_conflicts, r_define_requirements, new_resource_limits, r_define_conflicts, r_alter_conflicts, define_class_conflicts, alter_class_conflicts, r_delete_conflicts, permit_conflicts};
+ghost use Rattle.command_rules.specs.ProfileConflicts.{add_sd_requirements, new_profile_limits, add_sd_conflicts, alt_sd_conflicts, del_sd_conflicts, r_define_requirements, new_resource_limits, r_define_conflicts, r_alter_conflicts, define_class_requirements, new_class_limits, define_class_conflicts, alter_class_conflicts, r_delete_conflicts, permit_conflicts};
 ghost use Rattle.command_rules.specs.OptionConflicts.{set_ropts_conflicts};
 ghost use Rattle.command_rules.specs.Conflicts.{conflict_of, conflicts, first_met, add_user_conflicts, alt_user_conflicts, del_user_conflicts, add_group_conflicts, alt_group_conflicts, del_group_conflicts, connect_conflicts, remove_conflicts};
 
+mod classes;
 mod groups;
 mod members;
 mod names;
@@ -15,6 +16,7 @@ mod profiles;
 mod security;
 mod users;
 
+use classes::{check_class_free, check_class_unused, check_classes_fit, check_name_allowed};
 use command_fields::{
     AddGroup, AddSd, AddUser, AltGroup, AltSd, AltUser, AlterClass, CommandFields, Connect,
     DefineClass, DelGroup, DelSd, DelUser, Issuer, Permit, RAlter, RDefine, RDelete, Remove,
@@ -91,7 +93,7 @@ pub fn check_command(
         CommandFields::DelSd(command) => check_del_sd(tables, command),
         CommandFields::RDefine(command) => check_r_define(tables, issuer, command),
         CommandFields::RAlter(command) => check_r_alter(tables, issuer, command),
-        CommandFields::DefineClass(command) => check_define_class(tables, command),
+        CommandFields::DefineClass(command) => check_define_class(tables, issuer, command),
         CommandFields::AlterClass(command) => check_alter_class(tables, command),
         CommandFields::RDelete(command) => check_r_delete(tables, command),
         CommandFields::Permit(command) => check_permit(tables, issuer, command),
@@ -286,7 +288,10 @@ fn check_r_define(tables: &RowTables, issuer: &Issuer, command: &RDefine) -> Res
     if let Err(conflict) = check_new_resource(tables, command) {
         return Err(conflict);
     }
-    check_resource_fits(tables, command)
+    if let Err(conflict) = check_resource_fits(tables, command) {
+        return Err(conflict);
+    }
+    check_name_allowed(tables, command.class, &command.profile)
 }
 
 /// The tests of a general resource profile that is to be defined.
@@ -299,7 +304,7 @@ fn check_new_resource(tables: &RowTables, command: &RDefine) -> Result<(), Confl
         check_resource_class(tables, command.class),
         check_global_class(tables, command.class, &command.profile),
         check_profile_free(tables, command.class, &command.profile),
-        check_generic(command.class, &command.profile),
+        check_generic(tables, command.class, &command.profile),
         check_level(tables, command.seclevel),
         check_categories(tables, &command.addcategory),
         check_label(tables, command.seclabel),
@@ -336,14 +341,41 @@ fn check_r_alter(tables: &RowTables, issuer: &Issuer, command: &RAlter) -> Resul
     ]
 }
 
-/// The tests of RDEFINE in class CDT, in their order.
-#[tactic(auto, unfolding(command_rules::specs::ProfileConflicts::define_class_conflicts))]
-fn check_define_class(tables: &RowTables, command: &DefineClass) -> Result<(), Conflict>
-    ensures { result_err result ≡ first_met (define_class_conflicts command.now tables.now.rows) }
+/// The tests of RDEFINE in class CDT, in their order. The counts are those of the rows before it: one profile and one
+/// class more.
+fn check_define_class(
+    tables: &RowTables,
+    issuer: &Issuer,
+    command: &DefineClass,
+) -> Result<(), Conflict>
+    ensures { result_err result ≡ first_met (define_class_conflicts issuer.now command.now tables.now.rows) }
+{
+    if let Err(conflict) = check_new_class(tables, command) {
+        return Err(conflict);
+    }
+    check_class_fits(tables, command)
+}
+
+/// The tests of a class that is to be defined.
+#[tactic(auto, unfolding(command_rules::specs::ProfileConflicts::define_class_requirements))]
+fn check_new_class(tables: &RowTables, command: &DefineClass) -> Result<(), Conflict>
+    ensures { result_err result ≡ first_met (define_class_requirements command.now tables.now.rows) }
 {
     first_conflict![
         check_owner(tables, command.owner),
         check_resource_class(tables, cdt()),
+        check_class_free(tables, &command.profile),
+    ]
+}
+
+/// One more class, with its profile, is within the limits.
+fn check_class_fits(tables: &RowTables, command: &DefineClass) -> Result<(), Conflict>
+    ensures { result_err result ≡ first_met (new_class_limits command.now tables.now.rows) }
+{
+    first_conflict![
+        check_class_profiles_fit(tables, cdt()),
+        check_profiles_fit(tables),
+        check_classes_fit(tables, command),
     ]
 }
 
@@ -367,6 +399,7 @@ fn check_r_delete(tables: &RowTables, command: &RDelete) -> Result<(), Conflict>
     first_conflict![
         check_resource_profile(tables, command.class, &command.profile),
         check_resource_class(tables, command.class),
+        check_class_unused(tables, command),
     ]
 }
 
@@ -400,10 +433,10 @@ fn check_set_ropts(tables: &RowTables, command: &SetRopts) -> Result<(), Conflic
         check_known_classes(tables, &command.noglobal),
         check_known_classes(tables, &command.generic),
         check_logged_classes(tables, command),
-        check_generic_classes(&command.generic),
+        check_generic_classes(tables, &command.generic),
         check_refreshed(tables, command),
         check_listed_classes(tables, &command.noraclist),
         check_not_always_active(&command.noclassact),
-        check_listed_anew(command),
+        check_listed_anew(tables, command),
     ]
 }

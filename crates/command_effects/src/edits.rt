@@ -7,10 +7,12 @@ ghost use Rattle.command_fields.specs.declared.profile_fields.Permit.{Permit};
 ghost use Rattle.command_rules.specs.PermitEffects.{PermitFits};
 ghost use Rattle.command_rules.specs.Edits.{edits_of, put_user, put_group};
 
+mod classes;
 mod options;
 mod profiles;
 
 use crate::made::{altered_user, connected_user, new_user, removed_user};
+use classes::{edits_of_alter_class, edits_of_define_class, edits_of_r_delete};
 use command_fields::{AltGroup, AltUser, CommandFields, Connect, Issuer, Remove};
 use command_rules::{altered_group, dataset, new_group};
 use options::edits_of_set_ropts;
@@ -23,6 +25,8 @@ use std::alloc::Global;
 
 /// The edits that the command makes of these rows: at most one of a row, and behind it one of the options. Those of
 /// SETROPTS are one of the options, then those of the flags of classes, and then those that list and unlist classes.
+/// RDEFINE in class CDT adds the class behind its profile, and RDELETE there drops it behind the profile, which goes
+/// behind an edit of each user who has the class in his CLAUTH list: it copies all users to find them.
 ///
 /// # Errors
 ///
@@ -53,12 +57,9 @@ pub fn edits_of(
         CommandFields::DelSd(command) => one(alloc, Edit::DropProfile(dataset(), command.profile)),
         CommandFields::RDefine(command) => edits_of_r_define(alloc, tables, issuer, command),
         CommandFields::RAlter(command) => edits_of_r_alter(alloc, tables, command),
-        CommandFields::DefineClass(_) => Ok(Vec::new(alloc)),
-        CommandFields::AlterClass(_) => Ok(Vec::new(alloc)),
-        CommandFields::RDelete(command) => one(
-            alloc,
-            Edit::DropProfile(command.class, command.profile),
-        ),
+        CommandFields::DefineClass(command) => edits_of_define_class(alloc, issuer, command),
+        CommandFields::AlterClass(command) => edits_of_alter_class(alloc, tables, command),
+        CommandFields::RDelete(command) => edits_of_r_delete(alloc, tables, command),
         CommandFields::Permit(command) => edits_of_permit(alloc, tables, command),
         CommandFields::SetRopts(command) => edits_of_set_ropts(alloc, tables, command),
     }

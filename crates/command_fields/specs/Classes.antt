@@ -1,10 +1,8 @@
 -- The class CDT, whose profiles define classes, and what the commands on them say.
 use Rattle.std.specs.Prelude.{ℕ, Bool, ◌&&◌, nat_le, List, codes}
+pub use Rattle.racf_profiles.specs.DynamicClasses.{cdt}
 use Rattle.command_fields.specs.declared.class_fields.ClassNames.{ClassNames}
 use Rattle.command_fields.specs.declared.class_fields.ClassNames.TheVariants as class_names
-
-abbrev pub cdt : List ℕ
-cdt = codes "CDT"
 
 abbrev pub class_names_name : ClassNames → List ℕ
 class_names_name class_names.Full = codes "FULL"

@@ -159,9 +159,10 @@ pub record IsLawfulAltSd (a : AltSd) : Type 0 where
   pub delcategory : Each IsId a.delcategory
   pub seclabel : IfSome a.seclabel IsId
 
--- RDEFINE
+-- RDEFINE in another class than CDT
 pub record IsLawfulRDefine (a : RDefine) : Type 0 where
   pub class : IsId a.class
+  pub chosen : bytes_eq a.class cdt ≡ false
   pub profile : IsClassProfile a.class a.profile
   pub kind : a.profile.kind ≡ General
   pub owner : IfSome a.owner IsId
@@ -184,9 +185,10 @@ pub record IsLawfulAlterClass (a : AlterClass) : Type 0 where
   pub kind : a.profile.kind ≡ General
   pub owner : IfSome a.owner IsId
 
--- RALTER
+-- RALTER in another class than CDT
 pub record IsLawfulRAlter (a : RAlter) : Type 0 where
   pub class : IsId a.class
+  pub chosen : bytes_eq a.class cdt ≡ false
   pub profile : IsClassProfile a.class a.profile
   pub kind : a.profile.kind ≡ General
   pub owner : IfSome a.owner IsId

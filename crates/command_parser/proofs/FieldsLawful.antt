@@ -168,6 +168,15 @@ refresh-given a true [] (class ∷ classes) generic h = refl
 refresh-given a true [] [] (class ∷ classes) h = refl
 refresh-given a true [] [] [] h = cc
 
+-- RDEFINE and RALTER aren't in class CDT
+define-elsewhere : (own : Bool) → cond own verbs.DefineClass verbs.RDefine ≡ verbs.RDefine → own ≡ false
+define-elsewhere false h = refl
+define-elsewhere true h = cc
+
+alter-elsewhere : (own : Bool) → cond own verbs.AlterClass verbs.RAlter ≡ verbs.RAlter → own ≡ false
+alter-elsewhere false h = refl
+alter-elsewhere true h = cc
+
 pub fields-lawful : (c : CommandFields) → IsLawful (generic_view c) → AreLawfulFields c
 fields-lawful (command.AddUser a) lawful =
     let fits = λ (w : Word). fits-at (place w (operands_of verbs.AddUser)) (operands_of verbs.AddUser) (generic_view (command.AddUser a)).slots lawful.fits_operands in
@@ -239,6 +248,7 @@ fields-lawful (command.RDefine a) lawful =
     let known : Known = record { class = Some a.class; profile = Some a.profile } in
     record {
       class = class-given a.class lawful.fits_positions.0;
+      chosen = define-elsewhere (bytes_eq a.class cdt) lawful.chosen;
       profile = lawful.suits_positions.1.0;
       kind = (class-named (Some a.class) a.profile.text a.profile lawful.suits_positions.1.0).kinds;
       owner = id-given a.owner (fits words.Owner);
@@ -253,6 +263,7 @@ fields-lawful (command.RAlter a) lawful =
     let known : Known = record { class = Some a.class; profile = Some a.profile } in
     record {
       class = class-given a.class lawful.fits_positions.0;
+      chosen = alter-elsewhere (bytes_eq a.class cdt) lawful.chosen;
       profile = lawful.suits_positions.1.0;
       kind = (class-named (Some a.class) a.profile.text a.profile lawful.suits_positions.1.0).kinds;
       owner = id-given a.owner (fits words.Owner);

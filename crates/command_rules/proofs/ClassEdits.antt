@@ -1,6 +1,6 @@
 -- Edits of classes, each of the class of its name: what one made for each class that passes a test makes of all.
-use Rattle.std.proofs.Common.{◌≡◌, ℕ, Bool, true, false, cond, ◌&&◌, not, List, [], ◌∷◌, ◌++◌, map, refl, ap, ◌∙◌}
-use Rattle.std.specs.List.{filter, list_all, AllByRecursion}
+use Rattle.std.proofs.Common.{◌≡◌, ℕ, Bool, true, false, cond, ◌&&◌, not, List, [], ◌∷◌, ◌++◌, map, refl, sym, ap, subst, ◌∙◌}
+use Rattle.std.specs.List.{filter, AllByRecursion, IsDistinct}
 use Rattle.std.specs.Prelude.{⊤}
 use Rattle.std.specs.Str.{bytes_eq}
 use Rattle.std.proofs.lemmas.Bool.{and_parts, not-true}
@@ -8,10 +8,9 @@ use Rattle.std.proofs.lemmas.Slice.Eq.{bytes_eq-Decides}
 use Rattle.racf_profiles.specs.declared.class_rows.ClassRow.{ClassRow}
 use Rattle.racf_profiles.specs.declared.rows.Rows.{Rows}
 use Rattle.racf_profiles.specs.declared.edits.Edit.{Edit}
-use Rattle.racf_profiles.specs.ClassTable.{class_name, fixed_classes}
 use Rattle.racf_profiles.specs.Lookup.{is_class}
 use Rattle.racf_profiles.specs.Edits.{at_class, edited, changed}
-use Rattle.racf_profiles.specs.LawfulProfiles.{AreClasses, AreProfiles, kind_in}
+use Rattle.racf_profiles.specs.LawfulProfiles.{AreClasses, AreClassNames, AreProfiles, kind_in, names_of}
 use Rattle.racf_profiles.specs.Lawful.{LeaveLawfulClasses}
 
 pub changed-both : (first last : List Edit) (rows : Rows) → changed (first ++ last) rows ≡ changed last (changed first rows)
@@ -19,11 +18,6 @@ changed-both [] last rows = refl
 changed-both (edit ∷ edits) last rows = changed-both edits last (edited edit rows)
 
 -- ---- names
--- no two of these names are the same
-abbrev are_apart : List (List ℕ) → Bool
-are_apart [] = true
-are_apart (name ∷ names) = list_all (λ other. not (bytes_eq name other)) names && are_apart names
-
 -- the class has none of the names of these
 abbrev HasOther : ClassRow → List ClassRow → Type 0
 HasOther class others = AllByRecursion (λ (other : ClassRow). is_class other.name class ≡ false) others
@@ -32,24 +26,17 @@ abbrev pub AreApart : List ClassRow → Type 0
 AreApart [] = ⊤
 AreApart (class ∷ classes) = HasOther class classes × AreApart classes
 
-has-other : (class : ClassRow) (others : List ClassRow) → list_all (λ other. not (bytes_eq class.name other)) (map (λ (other : ClassRow). other.name) others) ≡ true → HasOther class others
+has-other : (class : ClassRow) (others : List ClassRow) → AllByRecursion (λ name. bytes_eq class.name name ≡ false) (names_of others) → HasOther class others
 has-other class [] all = tt
-has-other class (other ∷ others) all =
-    let parts = and_parts (not (is_class other.name class)) (list_all (λ name. not (bytes_eq class.name name)) (map (λ (one : ClassRow). one.name) others)) all in
-    (not-true (is_class other.name class) parts.0, has-other class others parts.1)
+has-other class (other ∷ others) all = (all.0, has-other class others all.1)
 
-apart : (classes : List ClassRow) → are_apart (map (λ (class : ClassRow). class.name) classes) ≡ true → AreApart classes
+apart : (classes : List ClassRow) → IsDistinct bytes_eq (names_of classes) → AreApart classes
+unfolding IsDistinct
 apart [] all = tt
-apart (class ∷ classes) all =
-    let names = map (λ (other : ClassRow). other.name) classes in
-    let parts = and_parts (list_all (λ other. not (bytes_eq class.name other)) names) (are_apart names) all in
-    (has-other class classes parts.0, apart classes parts.1)
-
-fixed-apart : are_apart (map class_name fixed_classes) ≡ true
-fixed-apart = refl
+apart (class ∷ classes) all = (has-other class classes all.0, apart classes all.1)
 
 pub lawful-apart : (classes : List ClassRow) → AreClasses classes → AreApart classes
-lawful-apart classes lawful = apart classes (ap are_apart lawful.fixed ∙ fixed-apart)
+lawful-apart classes lawful = apart classes lawful.names.distinct
 
 -- of those that pass it has the name of none either
 other-passing : (test : ClassRow → Bool) (class row : ClassRow) (others : List ClassRow) → row.name ≡ class.name → HasOther class others → HasOther row (filter test others)
@@ -121,7 +108,7 @@ keep-each edit keeps (class ∷ classes) = (keeps class, keep-each edit keeps cl
 
 -- where a class is changed that keeps its name and its profiles
 module _ (name : List ℕ) (change : ClassRow → ClassRow) (named : (row : ClassRow) → (change row).name ≡ row.name) where
-  names-kept : (classes : List ClassRow) → map (λ (class : ClassRow). class.name) (at_class name change classes) ≡ map (λ (class : ClassRow). class.name) classes
+  pub names-kept : (classes : List ClassRow) → map (λ (class : ClassRow). class.name) (at_class name change classes) ≡ map (λ (class : ClassRow). class.name) classes
   names-kept [] = refl
   names-kept (class ∷ classes) = by (is_class name class) (names-kept classes)
     where
@@ -143,4 +130,4 @@ module _ (name : List ℕ) (change : ClassRow → ClassRow) (named : (row : Clas
         by false rest = (all.0, rest)
 
     pub lawful-kept : (classes : List ClassRow) → AreClasses classes → AreClasses (at_class name change classes)
-    lawful-kept classes lawful = record { fixed = names-kept classes ∙ lawful.fixed; lawful = profiles-kept classes lawful.lawful }
+    lawful-kept classes lawful = record { names = subst AreClassNames (sym (names-kept classes)) lawful.names; lawful = profiles-kept classes lawful.lawful }

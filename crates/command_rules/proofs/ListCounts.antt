@@ -15,7 +15,7 @@ use Rattle.access_levels.specs.Level.{port_class_name}
 use Rattle.access_lists.specs.Lists.{is_for, is_under, is_for_under, entry_put, permitted, withdrawn, permitted_when, withdrawn_when, is_full, is_full_when}
 use Rattle.access_levels.specs.Entries.{is_same_who, is_same_port}
 use Rattle.racf_profiles.specs.declared.profiles.Member.{Member}
-use Rattle.racf_profiles.specs.declared.profiles.Member.TheVariants.{Access, SecurityLevel, Category}
+use Rattle.racf_profiles.specs.declared.profiles.Member.TheVariants.{Access, SecurityLevel, Category, Traits}
 use Rattle.command_fields.specs.declared.profile_fields.Permit.{Permit}
 use Rattle.group_tree.proofs.Rows.{same, itself}
 use Rattle.command_rules.specs.Security.{is_category_member}
@@ -181,6 +181,7 @@ length-class c names = by (has_name c names)
 any-category : (name : List ℕ) (m : Member) (names : List (List ℕ)) → has_name name (with_category_name names m) ≡ (has_name name names || is_category_member name m)
 any-category name (Access resources level) names = sym (or-comm (has_name name names) false)
 any-category name (SecurityLevel other number) names = sym (or-comm (has_name name names) false)
+any-category name (Traits traits) names = sym (or-comm (has_name name names) false)
 any-category name (Category c) names = any-class name c names
 
 any-categories : (name : List ℕ) (ms : List Member) (names : List (List ℕ)) → has_name name (fold with_category_name names ms) ≡ (has_name name names || list_any (is_category_member name) ms)
@@ -192,6 +193,7 @@ any-categories name (m ∷ ms) names =
 pub categories-more : (names : List (List ℕ)) (ms : List Member) (m : Member) → length (with_category_name (fold with_category_name names ms) m) + category_repeats m ms names ≡ length (fold with_category_name names ms) + 1
 categories-more names ms (Access resources level) = refl
 categories-more names ms (SecurityLevel other number) = refl
+categories-more names ms (Traits traits) = refl
 categories-more names ms (Category c) =
     let more : length (with_class (fold with_category_name names ms) c) ≡ length (fold with_category_name names ms) + cond (has_name c names || list_any (is_category_member c) ms) 0 1 =
     length-class c (fold with_category_name names ms) ∙ ap (λ b. length (fold with_category_name names ms) + cond b 0 1) (any-categories c ms names) in
@@ -204,6 +206,7 @@ categories-more names ms (Category c) =
 pub category_repeats-le : (m : Member) (ms : List Member) (names : List (List ℕ)) → category_repeats m ms names ≤ 1
 category_repeats-le (Access resources level) ms names = omega arith
 category_repeats-le (SecurityLevel other number) ms names = omega arith
+category_repeats-le (Traits traits) ms names = omega arith
 category_repeats-le (Category c) ms names = either (has_name c names || list_any (is_category_member c) ms)
   where
     either : (b : Bool) → cond b 1 0 ≤ 1

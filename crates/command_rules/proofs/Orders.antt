@@ -16,7 +16,9 @@ use Rattle.command_fields.specs.declared.fields.CommandFields.{CommandFields}
 use Rattle.command_fields.specs.declared.fields.CommandFields.TheVariants as fields
 use Rattle.command_fields.specs.declared.profile_fields.Permit.{Permit}
 use Rattle.command_rules.specs.Effects.{step}
-use Rattle.command_rules.specs.declared.conflict.Conflict.TheVariants.{NoUser, NoGroup, NoProfile, NoClass, Exists, NotConnected, Root, Cycle, OwnerNotSuperior, NotGeneric, NotListed, ClassFixed, DefaultGroup, LastSpecial, UnknownName, Full}
+use Rattle.command_fields.specs.declared.profile_fields.RDelete.{RDelete}
+use Rattle.command_rules.specs.declared.conflict.Holder.TheVariants.{Profile as ProfileOf}
+use Rattle.command_rules.specs.declared.conflict.Conflict.TheVariants.{NoUser, NoGroup, NoProfile, NoClass, Exists, NotConnected, Root, InUse, Cycle, OwnerNotSuperior, NotGeneric, NotListed, ClassFixed, DefaultGroup, LastSpecial, UnknownName, Full, NameNotAllowed}
 use Rattle.racf_profiles.specs.Limits.{most_list_entries, most_members}
 use Rattle.command_rules.specs.declared.conflict.Limit.{Limit}
 use Rattle.command_rules.specs.declared.conflict.Limit.TheVariants.{Entries, Members}
@@ -34,6 +36,10 @@ use Rattle.command_rules.specs.ProfileConflicts.{
   no_resource_profile,
   profile_taken,
   not_generic,
+  name_not_allowed,
+  class_taken,
+  class_in_use,
+  classes_full,
   class_profiles_full,
   profiles_full,
   standard_full,
@@ -48,7 +54,8 @@ use Rattle.command_rules.specs.ProfileConflicts.{
   r_define_requirements,
   r_define_limits,
   r_alter_conflicts,
-  define_class_conflicts,
+  define_class_requirements,
+  define_class_limits,
   alter_class_conflicts,
   r_delete_conflicts,
   permit_conflicts,
@@ -225,9 +232,9 @@ profile_taken-number : (class : List ℕ) (name : Spelled) (rows : Rows) → Has
 unfolding profile_taken
 profile_taken-number class name rows = number-if_met _ (Exists _)
 
-generic-number : (class : List ℕ) (name : Spelled) → HasNumber 11 (not_generic class name)
+generic-number : (class : List ℕ) (name : Spelled) (rows : Rows) → HasNumber 11 (not_generic class name rows)
 unfolding not_generic
-generic-number class name = number-if_met _ (NotGeneric class)
+generic-number class name rows = number-if_met _ (NotGeneric class)
 
 class_profiles-number : (issuer : Issuer) (command : CommandFields) (class : List ℕ) (rows : Rows) → HasNumber 17 (class_profiles_full issuer command class rows)
 unfolding class_profiles_full
@@ -257,14 +264,30 @@ categories-number : (issuer : Issuer) (command : CommandFields) (rows : Rows) �
 unfolding categories_full
 categories-number issuer command rows = over-number _ _ _
 
+not_allowed-number : (class : List ℕ) (name : Spelled) (rows : Rows) → HasNumber 18 (name_not_allowed class name rows)
+unfolding name_not_allowed
+not_allowed-number class name rows = number-if_met _ (NameNotAllowed class)
+
+class_taken-number : (name : Spelled) (rows : Rows) → HasNumber 5 (class_taken name rows)
+unfolding class_taken
+class_taken-number name rows = number-if_met _ (Exists _)
+
+class_in_use-number : (c : RDelete) (rows : Rows) → HasNumber 8 (class_in_use c rows)
+unfolding class_in_use
+class_in_use-number c rows = number-map 8 (λ (p : Profile). InUse (ProfileOf p.name)) (λ p. refl) _
+
+classes-number : (issuer : Issuer) (command : CommandFields) (rows : Rows) → HasNumber 17 (classes_full issuer command rows)
+unfolding classes_full
+classes-number issuer command rows = over-number _ _ _
+
 -- ---- of options
 absent-number : (classes : List (List ℕ)) (rows : Rows) → HasNumber 4 (absent_class classes rows)
 unfolding absent_class
 absent-number classes rows = number-map 4 NoClass (λ x. refl) _
 
-without_generic-number : (classes : List (List ℕ)) → HasNumber 11 (class_without_generic classes)
+without_generic-number : (classes : List (List ℕ)) (rows : Rows) → HasNumber 11 (class_without_generic classes rows)
 unfolding class_without_generic
-without_generic-number classes = number-map 11 NotGeneric (λ x. refl) _
+without_generic-number classes rows = number-map 11 NotGeneric (λ x. refl) _
 
 unlisted-number : (classes : List (List ℕ)) (rows : Rows) → HasNumber 12 (unlisted_class classes rows)
 unfolding unlisted_class
@@ -274,9 +297,9 @@ always_active-number : (classes : List (List ℕ)) → HasNumber 13 (always_acti
 unfolding always_active_class
 always_active-number classes = number-map 13 ClassFixed (λ x. refl) _
 
-never_listed-number : (classes : List (List ℕ)) → HasNumber 13 (never_listed_class classes)
+never_listed-number : (classes : List (List ℕ)) (rows : Rows) → HasNumber 13 (never_listed_class classes rows)
 unfolding never_listed_class
-never_listed-number classes = number-map 13 ClassFixed (λ x. refl) _
+never_listed-number classes rows = number-map 13 ClassFixed (λ x. refl) _
 
 -- ---- each command's tests, with their numbers
 abbrev numbers_of : CommandFields → List ℕ
@@ -291,16 +314,16 @@ numbers_of (fields.Remove c) = 1 ∷ 2 ∷ 6 ∷ 14 ∷ []
 numbers_of (fields.AddSd c) = 1 ∷ 1 ∷ 5 ∷ 16 ∷ 16 ∷ 16 ∷ 17 ∷ 17 ∷ []
 numbers_of (fields.AltSd c) = 1 ∷ 3 ∷ 16 ∷ 16 ∷ 16 ∷ 16 ∷ []
 numbers_of (fields.DelSd c) = 3 ∷ []
-numbers_of (fields.RDefine c) = 1 ∷ 4 ∷ 4 ∷ 5 ∷ 11 ∷ 16 ∷ 16 ∷ 16 ∷ 17 ∷ 17 ∷ 17 ∷ 17 ∷ []
+numbers_of (fields.RDefine c) = 1 ∷ 4 ∷ 4 ∷ 5 ∷ 11 ∷ 16 ∷ 16 ∷ 16 ∷ 17 ∷ 17 ∷ 17 ∷ 17 ∷ 18 ∷ []
 numbers_of (fields.RAlter c) = 1 ∷ 3 ∷ 4 ∷ 16 ∷ 16 ∷ 16 ∷ 16 ∷ 17 ∷ 17 ∷ []
-numbers_of (fields.DefineClass c) = 1 ∷ 4 ∷ []
+numbers_of (fields.DefineClass c) = 1 ∷ 4 ∷ 5 ∷ 17 ∷ 17 ∷ 17 ∷ []
 numbers_of (fields.AlterClass c) = 1 ∷ 3 ∷ 4 ∷ []
-numbers_of (fields.RDelete c) = 3 ∷ 4 ∷ []
+numbers_of (fields.RDelete c) = 3 ∷ 4 ∷ 8 ∷ []
 numbers_of (fields.Permit c) = 1 ∷ 3 ∷ 4 ∷ 17 ∷ 17 ∷ 17 ∷ []
 numbers_of (fields.SetRopts c) = 4 ∷ 4 ∷ 4 ∷ 4 ∷ 4 ∷ 4 ∷ 4 ∷ 4 ∷ 11 ∷ 12 ∷ 12 ∷ 13 ∷ 13 ∷ []
 
 are_numbered : (issuer : Issuer) (command : CommandFields) (rows : Rows) → AreNumbered (conflicts issuer command rows) (numbers_of command)
-unfolding add_user_conflicts alt_user_conflicts del_user_conflicts add_group_conflicts alt_group_conflicts del_group_conflicts connect_conflicts remove_conflicts add_sd_requirements add_sd_limits alt_sd_conflicts del_sd_conflicts r_define_requirements r_define_limits r_alter_conflicts define_class_conflicts alter_class_conflicts r_delete_conflicts permit_conflicts set_ropts_conflicts
+unfolding add_user_conflicts alt_user_conflicts del_user_conflicts add_group_conflicts alt_group_conflicts del_group_conflicts connect_conflicts remove_conflicts add_sd_requirements add_sd_limits alt_sd_conflicts del_sd_conflicts r_define_requirements r_define_limits r_alter_conflicts define_class_requirements define_class_limits alter_class_conflicts r_delete_conflicts permit_conflicts set_ropts_conflicts
 are_numbered issuer (fields.AddUser c) rows = (owner-number _ rows, (group-number _ rows, (class-number _ rows, (taken-number _ rows, (level-number _ rows, (category-number _ rows, (label-number _ rows, (users-number issuer _ rows, (user_full-number _, (connections-number issuer _ rows, tt))))))))))
 are_numbered issuer (fields.AltUser c) rows = (user-number _ rows, (owner-number _ rows, (named_group-number _ rows, (class-number _ rows, (class-number _ rows, (default_connected-number _ _ rows, (special-number issuer _ _ rows, (level-number _ rows, (category-number _ rows, (never-number _ rows, (label-number _ rows, tt)))))))))))
 are_numbered issuer (fields.DelUser c) rows = (user-number _ rows, (has_profile-number _ rows, (special-number issuer _ _ rows, tt)))
@@ -312,13 +335,13 @@ are_numbered issuer (fields.Remove c) rows = (user-number _ rows, (group-number 
 are_numbered issuer (fields.AddSd c) rows = (qualifier-number _ rows, (owner-number _ rows, (profile_taken-number _ _ rows, (level-number _ rows, (category-number _ rows, (label-number _ rows, (class_profiles-number issuer _ _ rows, (profiles-number issuer _ rows, tt))))))))
 are_numbered issuer (fields.AltSd c) rows = (owner-number _ rows, (profile-number _ _ rows, (level-number _ rows, (category-number _ rows, (never-number _ rows, (label-number _ rows, tt))))))
 are_numbered issuer (fields.DelSd c) rows = (profile-number _ _ rows, tt)
-are_numbered issuer (fields.RDefine c) rows = (owner-number _ rows, (resource_class-number _ rows, (global_class-number _ _ rows, (profile_taken-number _ _ rows, (generic-number _ _, (level-number _ rows, (category-number _ rows, (label-number _ rows, (class_profiles-number issuer _ _ rows, (profiles-number issuer _ rows, (members-number issuer _ _ _ rows, (categories-number issuer _ rows, tt))))))))))))
+are_numbered issuer (fields.RDefine c) rows = (owner-number _ rows, (resource_class-number _ rows, (global_class-number _ _ rows, (profile_taken-number _ _ rows, (generic-number _ _ rows, (level-number _ rows, (category-number _ rows, (label-number _ rows, (class_profiles-number issuer _ _ rows, (profiles-number issuer _ rows, (members-number issuer _ _ _ rows, (categories-number issuer _ rows, (not_allowed-number _ _ rows, tt)))))))))))))
 are_numbered issuer (fields.RAlter c) rows = (owner-number _ rows, (resource_profile-number _ _ rows, (resource_class-number _ rows, (level-number _ rows, (category-number _ rows, (never-number _ rows, (label-number _ rows, (members-number issuer _ _ _ rows, (categories-number issuer _ rows, tt)))))))))
-are_numbered issuer (fields.DefineClass c) rows = (owner-number _ rows, (resource_class-number _ rows, tt))
+are_numbered issuer (fields.DefineClass c) rows = (owner-number _ rows, (resource_class-number _ rows, (class_taken-number _ rows, (class_profiles-number issuer _ _ rows, (profiles-number issuer _ rows, (classes-number issuer _ rows, tt))))))
 are_numbered issuer (fields.AlterClass c) rows = (owner-number _ rows, (resource_profile-number _ _ rows, (resource_class-number _ rows, tt)))
-are_numbered issuer (fields.RDelete c) rows = (resource_profile-number _ _ rows, (resource_class-number _ rows, tt))
+are_numbered issuer (fields.RDelete c) rows = (resource_profile-number _ _ rows, (resource_class-number _ rows, (class_in_use-number c rows, tt)))
 are_numbered issuer (fields.Permit c) rows = (permitted-number _ _ rows, (profile-number _ _ rows, (such_class-number _ rows, (standard-number issuer _ rows, (conditional-number issuer _ rows, (entries-number issuer _ rows, tt))))))
-are_numbered issuer (fields.SetRopts c) rows = (absent-number _ rows, (absent-number _ rows, (absent-number _ rows, (absent-number _ rows, (absent-number _ rows, (absent-number _ rows, (absent-number _ rows, (absent-number _ rows, (without_generic-number _, (unlisted-number _ rows, (unlisted-number _ rows, (always_active-number _, (never_listed-number _, tt)))))))))))))
+are_numbered issuer (fields.SetRopts c) rows = (absent-number _ rows, (absent-number _ rows, (absent-number _ rows, (absent-number _ rows, (absent-number _ rows, (absent-number _ rows, (absent-number _ rows, (absent-number _ rows, (without_generic-number _ rows, (unlisted-number _ rows, (unlisted-number _ rows, (always_active-number _, (never_listed-number _ rows, tt)))))))))))))
 
 sorted : (command : CommandFields) → are_sorted (numbers_of command) ≡ true
 sorted (fields.AddUser c) = refl

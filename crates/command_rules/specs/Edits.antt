@@ -1,4 +1,5 @@
--- The edits that a command makes: each is the whole new row, or drops one; of a class it sets flags, lists or unlists.
+-- The edits that a command makes: each is the whole new row, or drops one; of a class it sets flags, lists or unlists,
+-- or it adds one.
 use Rattle.std.specs.Prelude.{ℕ, Bool, true, false, ◌&&◌, ◌||◌, not, List, [], ◌∷◌, ◌++◌, map, if◌then◌else◌, Option, None, Some}
 use Rattle.std.specs.List.{filter, list_any, list_all}
 use Rattle.racf_profiles.specs.declared.class_rows.ClassRow.{ClassRow}
@@ -12,7 +13,7 @@ use Rattle.racf_profiles.specs.declared.profiles.Member.{Member}
 use Rattle.racf_profiles.specs.declared.options.Options.{Options}
 use Rattle.racf_profiles.specs.declared.rows.Rows.{Rows}
 use Rattle.racf_profiles.specs.declared.edits.Edit.{Edit}
-use Rattle.racf_profiles.specs.declared.edits.Edit.TheVariants.{PutUser, DropUser, PutGroup, DropGroup, PutProfile, DropProfile, PutOptions, PutClass, List as ListCopy, Unlist}
+use Rattle.racf_profiles.specs.declared.edits.Edit.TheVariants.{PutUser, DropUser, PutGroup, DropGroup, PutProfile, DropProfile, PutOptions, PutClass, List as ListCopy, Unlist, AddClass, DropClass}
 use Rattle.racf_profiles.specs.Lookup.{user_of, group_of, profile_of}
 use Rattle.command_fields.specs.declared.issuer.Issuer.{Issuer}
 use Rattle.command_fields.specs.declared.fields.CommandFields.{CommandFields}
@@ -25,7 +26,10 @@ use Rattle.command_fields.specs.declared.profile_fields.RAlter.{RAlter}
 use Rattle.command_fields.specs.declared.profile_fields.RDelete.{RDelete}
 use Rattle.command_fields.specs.declared.profile_fields.Permit.{Permit}
 use Rattle.command_rules.specs.Members.{options_after}
-use Rattle.command_rules.specs.ProfileEffects.{dataset, new_data_set, altered_data_set, new_resource, altered_resource}
+use Rattle.command_fields.specs.declared.class_fields.DefineClass.{DefineClass}
+use Rattle.command_fields.specs.declared.class_fields.AlterClass.{AlterClass}
+use Rattle.racf_profiles.specs.DynamicClasses.{cdt}
+use Rattle.command_rules.specs.ProfileEffects.{dataset, new_data_set, altered_data_set, new_resource, altered_resource, named_class, new_class_profile, altered_class_profile, has_clauth, without_clauth, deleted_class}
 use Rattle.command_rules.specs.PermitEffects.{permitted_profile}
 use Rattle.command_rules.specs.Effects.{new_user, altered_user, new_group, altered_group, connected_user, removed_user}
 
@@ -62,8 +66,28 @@ edits_of_r_define issuer c rows = PutProfile c.class (new_resource issuer c rows
 abbrev pub edits_of_r_alter : RAlter → Rows → List Edit
 edits_of_r_alter c rows = put_changed c.class (altered_resource c rows) (profile_of c.class c.profile rows) ++ put_options c.addmem rows.options
 
-abbrev pub edits_of_r_delete : RDelete → List Edit
-edits_of_r_delete c = DropProfile c.class c.profile ∷ []
+-- RDEFINE in CDT puts the profile and adds its class.
+abbrev pub add_class : Option (List ℕ) → List Edit
+add_class None = []
+add_class (Some class) = AddClass class ∷ []
+
+abbrev pub edits_of_define_class : Issuer → DefineClass → List Edit
+edits_of_define_class issuer c = PutProfile cdt (new_class_profile issuer c) ∷ add_class (named_class c.profile)
+
+abbrev pub edits_of_alter_class : AlterClass → Rows → List Edit
+edits_of_alter_class c rows = put_changed cdt (altered_class_profile c) (profile_of cdt c.profile rows)
+
+-- RDELETE in CDT takes the class from each user who has it in his CLAUTH list, drops the profile, and then the class.
+abbrev pub put_without_clauth : Option (List ℕ) → List User → List Edit
+put_without_clauth None users = []
+put_without_clauth (Some class) users = map (λ (user : User). PutUser (without_clauth class user)) (filter (has_clauth class) users)
+
+abbrev pub drop_class : Option (List ℕ) → List Edit
+drop_class None = []
+drop_class (Some class) = DropClass class ∷ []
+
+abbrev pub edits_of_r_delete : RDelete → Rows → List Edit
+edits_of_r_delete c rows = put_without_clauth (deleted_class c) rows.users ++ DropProfile c.class c.profile ∷ drop_class (deleted_class c)
 
 abbrev pub edits_of_permit : Permit → Rows → List Edit
 edits_of_permit c rows = put_changed c.class (permitted_profile c) (profile_of c.class c.profile rows)
@@ -96,9 +120,11 @@ edits_of_set_ropts c rows =
 abbrev pub refreshes_listed : SetRopts → List ClassRow → Bool
 refreshes_listed c classes = list_all (λ (class : ClassRow). not (c.refresh && names_class c.raclist class) || class.listed) classes
 
-abbrev pub is_set_ropts : CommandFields → Bool
-is_set_ropts (fields.SetRopts c) = true
-is_set_ropts command = false
+-- SETROPTS lists classes and unlists them, and RDELETE drops a class of CDT; no other command touches a listed copy.
+abbrev pub edits_copies : CommandFields → Bool
+edits_copies (fields.SetRopts c) = true
+edits_copies (fields.RDelete c) = true
+edits_copies command = false
 
 abbrev pub edits_of : Issuer → CommandFields → Rows → List Edit
 edits_of issuer (fields.AddUser c) rows = PutUser (new_user issuer c rows) ∷ []
@@ -114,8 +140,8 @@ edits_of issuer (fields.AltSd c) rows = edits_of_alt_sd c rows
 edits_of issuer (fields.DelSd c) rows = edits_of_del_sd c
 edits_of issuer (fields.RDefine c) rows = edits_of_r_define issuer c rows
 edits_of issuer (fields.RAlter c) rows = edits_of_r_alter c rows
-edits_of issuer (fields.DefineClass c) rows = []
-edits_of issuer (fields.AlterClass c) rows = []
-edits_of issuer (fields.RDelete c) rows = edits_of_r_delete c
+edits_of issuer (fields.DefineClass c) rows = edits_of_define_class issuer c
+edits_of issuer (fields.AlterClass c) rows = edits_of_alter_class c rows
+edits_of issuer (fields.RDelete c) rows = edits_of_r_delete c rows
 edits_of issuer (fields.Permit c) rows = edits_of_permit c rows
 edits_of issuer (fields.SetRopts c) rows = edits_of_set_ropts c rows

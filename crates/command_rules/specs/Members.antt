@@ -4,7 +4,7 @@ use Rattle.std.specs.List.{list_any}
 use Rattle.access_lists.specs.Lists.{entry_put}
 use Rattle.generic_names.specs.Spelled.{Spelled}
 use Rattle.racf_profiles.specs.declared.profiles.Member.{Member}
-use Rattle.racf_profiles.specs.declared.profiles.Member.TheVariants.{Access, SecurityLevel, Category}
+use Rattle.racf_profiles.specs.declared.profiles.Member.TheVariants.{Access, SecurityLevel, Category, Traits}
 use Rattle.racf_profiles.specs.declared.options.Options.{Options}
 pub use Rattle.racf_profiles.specs.LawfulProfiles.{member_name}
 use Rattle.command_rules.specs.Security.{is_category_member}
@@ -34,6 +34,7 @@ abbrev pub with_category_name : List (List ℕ) → Member → List (List ℕ)
 with_category_name names (Access resources level) = names
 with_category_name names (SecurityLevel name number) = names
 with_category_name names (Category name) = with_class names name
+with_category_name names (Traits traits) = names
 
 abbrev pub categories_defined : List Member → List (List ℕ) → List (List ℕ)
 categories_defined added names = fold with_category_name names added
@@ -46,4 +47,5 @@ options_after added options = record options { categories = categories_defined a
 abbrev pub category_repeats : Member → List Member → List (List ℕ) → ℕ
 category_repeats (Access resources level) before names = 1
 category_repeats (SecurityLevel name number) before names = 1
+category_repeats (Traits traits) before names = 1
 category_repeats (Category name) before names = if list_any (λ other. bytes_eq other name) names || list_any (is_category_member name) before then 1 else 0

@@ -2,7 +2,7 @@
 use Rattle.std.specs.Prelude.{ℕ, nat_le, Bool, true, ◌&&◌, List, [], ◌∷◌, Option, None, Some}
 use Rattle.std.specs.List.{list_all}
 use Rattle.command_rules.specs.declared.conflict.Conflict.{Conflict}
-use Rattle.command_rules.specs.declared.conflict.Conflict.TheVariants.{NoUser, NoGroup, NoProfile, NoClass, Exists, NotConnected, Root, InUse, Cycle, OwnerNotSuperior, NotGeneric, NotListed, ClassFixed, DefaultGroup, LastSpecial, UnknownName, Full}
+use Rattle.command_rules.specs.declared.conflict.Conflict.TheVariants.{NoUser, NoGroup, NoProfile, NoClass, Exists, NotConnected, Root, InUse, Cycle, OwnerNotSuperior, NotGeneric, NotListed, ClassFixed, DefaultGroup, LastSpecial, UnknownName, Full, NameNotAllowed}
 
 abbrev pub number_of : Conflict → ℕ
 number_of (NoUser id) = 1
@@ -22,6 +22,7 @@ number_of (DefaultGroup group) = 14
 number_of (LastSpecial user) = 15
 number_of (UnknownName name) = 16
 number_of (Full kind limit) = 17
+number_of (NameNotAllowed class) = 18
 
 -- A conflict that is told before the issuer's authority is judged: one that comes before Root.
 abbrev pub is_early : Conflict → Bool

@@ -4,7 +4,7 @@ use Rattle.std.specs.List.{flat_map}
 use Rattle.std.specs.Option.{option_map_or}
 use Rattle.racf_profiles.specs.declared.fixed_classes.ClassFacts.{ClassFacts}
 use Rattle.racf_profiles.specs.declared.rows.Rows.{Rows}
-use Rattle.racf_profiles.specs.ClassTable.{facts_of}
+use Rattle.racf_profiles.specs.DynamicClasses.{facts_in}
 use Rattle.racf_profiles.specs.Lookup.{class_of}
 use Rattle.racf_profiles.specs.State.{is_listed}
 use Rattle.command_fields.specs.declared.log_clauses.LogClause.{LogClause}
@@ -18,17 +18,17 @@ use Rattle.command_rules.specs.ProfileConflicts.{has_generic}
 unfoldable pub absent_class : List (List ℕ) → Rows → Option Conflict
 absent_class classes rows = option_map NoClass (find (λ class. not (is_some (class_of class rows))) classes)
 
-unfoldable pub class_without_generic : List (List ℕ) → Option Conflict
-class_without_generic classes = option_map NotGeneric (find (λ class. not (has_generic class)) classes)
+unfoldable pub class_without_generic : List (List ℕ) → Rows → Option Conflict
+class_without_generic classes rows = option_map NotGeneric (find (λ class. not (has_generic class rows)) classes)
 
 unfoldable pub unlisted_class : List (List ℕ) → Rows → Option Conflict
 unlisted_class classes rows = option_map NotListed (find (λ class. not (is_listed class rows)) classes)
 
-abbrev pub may_be_listed : List ℕ → Bool
-may_be_listed class = option_map_or (λ (facts : ClassFacts). facts.raclist) (facts_of class) false
+abbrev pub may_be_listed : List ℕ → Rows → Bool
+may_be_listed class rows = option_map_or (λ (facts : ClassFacts). facts.raclist) (facts_in class rows) false
 
-unfoldable pub never_listed_class : List (List ℕ) → Option Conflict
-never_listed_class classes = option_map ClassFixed (find (λ class. not (may_be_listed class)) classes)
+unfoldable pub never_listed_class : List (List ℕ) → Rows → Option Conflict
+never_listed_class classes rows = option_map ClassFixed (find (λ class. not (may_be_listed class rows)) classes)
 
 -- DATASET is never inactive.
 unfoldable pub always_active_class : List (List ℕ) → Option Conflict
@@ -55,9 +55,9 @@ set_ropts_conflicts c rows =
     ∷ absent_class c.noglobal rows
     ∷ absent_class c.generic rows
     ∷ absent_class (logged_classes c) rows
-    ∷ class_without_generic c.generic
+    ∷ class_without_generic c.generic rows
     ∷ unlisted_class (refreshed c) rows
     ∷ unlisted_class c.noraclist rows
     ∷ always_active_class c.noclassact
-    ∷ never_listed_class (listed_anew c)
+    ∷ never_listed_class (listed_anew c) rows
     ∷ []

@@ -8,7 +8,7 @@ use Rattle.generic_names.specs.declared.kind.NameKind.TheVariants.{General}
 use Rattle.generic_names.specs.Spelled.{Spelled}
 use Rattle.racf_profiles.specs.declared.profiles.Profile.{Profile}
 use Rattle.racf_profiles.specs.declared.profiles.Member.{Member}
-use Rattle.racf_profiles.specs.declared.profiles.Member.TheVariants.{Access, SecurityLevel, Category}
+use Rattle.racf_profiles.specs.declared.profiles.Member.TheVariants.{Access, SecurityLevel, Category, Traits}
 use Rattle.racf_profiles.specs.declared.rows.Rows.{Rows}
 use Rattle.racf_profiles.specs.Lookup.{profile_of}
 
@@ -24,6 +24,7 @@ abbrev pub security_level_of : List ℕ → Member → Option ℕ
 security_level_of name (Access resources level) = None
 security_level_of name (SecurityLevel other number) = if bytes_eq other name then Some number else None
 security_level_of name (Category other) = None
+security_level_of name (Traits traits) = None
 
 abbrev pub first_security_level : List ℕ → List Member → Option ℕ
 first_security_level name [] = None
@@ -37,6 +38,7 @@ abbrev pub is_category_member : List ℕ → Member → Bool
 is_category_member name (Access resources level) = false
 is_category_member name (SecurityLevel other number) = false
 is_category_member name (Category other) = bytes_eq other name
+is_category_member name (Traits traits) = false
 
 -- A category that can be given now.
 abbrev pub is_category : Rows → List ℕ → Bool

@@ -41,6 +41,8 @@ pub enum Conflict {
     UnknownName(Id),
     /// The database would hold more of this kind than this number.
     Full(Limit, u64),
+    /// The class, which isn't a fixed one, doesn't allow the name.
+    NameNotAllowed(Id),
 }
 
 impl Conflict {
@@ -69,6 +71,7 @@ impl Conflict {
             Conflict::LastSpecial(_) => 15,
             Conflict::UnknownName(_) => 16,
             Conflict::Full(_, _) => 17,
+            Conflict::NameNotAllowed(_) => 18,
         }
     }
 
@@ -88,14 +91,14 @@ pub enum Named {
     Profile(Pattern),
 }
 
-/// What still uses a user or a group.
+/// What still uses a user, a group or a class.
 #[derive(Clone, Copy)]
 pub enum Holder {
     /// A group below the group.
     Subgroup(Id),
     /// A user who is connected to the group.
     Connected(Id),
-    /// A data set profile whose first qualifier is the ID.
+    /// A data set profile whose first qualifier is the ID; a profile of the class, or its own in GLOBAL.
     Profile(Pattern),
 }
 
@@ -119,4 +122,6 @@ pub enum Limit {
     Members,
     /// The categories ever defined.
     Categories,
+    /// The classes beside the fixed ones.
+    Classes,
 }

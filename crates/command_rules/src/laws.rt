@@ -14,16 +14,18 @@ ghost use Rattle.command_fields.specs.declared.issuer.Issuer.{Issuer};
 ghost use Rattle.command_fields.specs.declared.fields.CommandFields.{CommandFields};
 ghost use Rattle.command_fields.specs.declared.option_fields.SetRopts.{SetRopts};
 ghost use Rattle.command_rules.specs.OptionEffects.{after_set_ropts};
-ghost use Rattle.command_rules.specs.Edits.{edits_of, edits_of_set_ropts, is_set_ropts, refreshes_listed};
+ghost use Rattle.command_rules.specs.Edits.{edits_of, edits_of_set_ropts, edits_copies, refreshes_listed};
 ghost use Rattle.command_rules.specs.Numbers.{met, is_ascending, is_early};
 ghost use Rattle.command_rules.specs.Conflicts.{conflicts, conflict_of, first_conflict_of, meets};
 
-/// No command but SETROPTS lists a class or unlists one. Where the classes are lawful before a command and behind it,
-/// they are so behind each of its edits.
+/// No command but SETROPTS lists a class or unlists one, and none but RDELETE drops one. Where the classes are lawful
+/// before a command and behind it, they are so behind each of its edits.
 pub fn commands_edit_rows_alone()
-    ensures listed { (issuer : Issuer) (command : CommandFields) (rows : Rows) → IsFalse (is_set_ropts command) → IsTrue (list_all (λ (edit : Edit). not (is_of_copies edit)) (edits_of issuer command rows)) }
+    ensures listed { (issuer : Issuer) (command : CommandFields) (rows : Rows) → IsFalse (edits_copies command) → IsTrue (list_all (λ (edit : Edit). not (is_of_copies edit)) (edits_of issuer command rows)) }
     ensures classes { (issuer : Issuer) (command : CommandFields) (rows : Rows) → AreClasses rows.classes → AreClasses (changed (edits_of issuer command rows) rows).classes → LeaveLawfulClasses (edits_of issuer command rows) rows }
-{}
+{
+    generic_names::laws::order_is_total();
+}
 
 /// The edits of SETROPTS make its rows, where REFRESH is given for listed classes alone.
 pub fn set_ropts_edits_make_its_rows()

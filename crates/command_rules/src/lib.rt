@@ -23,6 +23,9 @@ mod security;
 
 pub use conflict::{Conflict, Holder, Limit, Named};
 pub use members::{categories_count, is_member_named, is_named_in, member_name, members_count};
-pub use parts::{altered_group, attributes_after, dataset, new_group, owner_or_issuer, switched};
+pub use parts::{
+    altered_group, attributes_after, dataset, deleted_class, named_class, new_group,
+    owner_or_issuer, switched,
+};
 pub use permit::{conditional_count, conditional_reset, standard_count, standard_reset};
 pub use security::{category_number, is_category, is_label, level_number, was_category};

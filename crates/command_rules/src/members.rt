@@ -26,6 +26,7 @@ pub fn member_name(member: &Member) -> &[u8]
         Member::Access(name, _) => name.text(),
         Member::SecurityLevel(name, _) => name.text(),
         Member::Category(name) => name.text(),
+        Member::Traits(_) => &[],
     }
 }
 

@@ -1,10 +1,11 @@
 //! Parts of the rows that a command makes: groups, attributes and owners.
 ghost use Rattle.std.specs.Prelude.{◌≡◌};
 ghost use Rattle.command_rules.specs.Effects.{switched, owner_or_issuer, new_group, altered_group, attributes_after};
-ghost use Rattle.command_rules.specs.ProfileEffects.{dataset};
+ghost use Rattle.command_rules.specs.ProfileEffects.{dataset, named_class, deleted_class};
 
 use access_levels::{Attributes, Id};
-use command_fields::{AddGroup, AltGroup, AltUser, Issuer};
+use command_fields::{AddGroup, AltGroup, AltUser, Issuer, RDelete, is_cdt};
+use generic_names::Pattern;
 use racf_profiles::{FixedClass, Group};
 
 /// The owner that is named, or else the issuer.
@@ -62,4 +63,22 @@ pub fn dataset() -> Id
     ensures { result ≡ dataset }
 {
     FixedClass::Dataset.id()
+}
+
+/// The class that the name of a profile in CDT stands for; none where it isn't spelled as an ID, which no text gives.
+pub fn named_class(name: &Pattern) -> Option<Id>
+    ensures { result ≡ named_class name.now }
+{
+    Id::read(name.text()).ok()
+}
+
+/// The class that RDELETE takes away with its profile: in CDT the one of the profile's name.
+pub fn deleted_class(command: &RDelete) -> Option<Id>
+    ensures { result ≡ deleted_class command.now }
+{
+    if is_cdt(command.class) {
+        named_class(&command.profile)
+    } else {
+        None
+    }
 }

@@ -229,6 +229,9 @@ member-good forms.SecurityLevel (member.Access n l) h = absurd h
 member-good forms.SecurityLevel (member.Category x) h = absurd h
 member-good forms.Category (member.Access n l) h = absurd h
 member-good forms.Category (member.SecurityLevel x n) h = absurd h
+member-good (forms.Access kind) (member.Traits traits) h = absurd h
+member-good forms.SecurityLevel (member.Traits traits) h = absurd h
+member-good forms.Category (member.Traits traits) h = absurd h
 
 id_name-so : (t : List ℕ) (n : Spelled) → id_name t ≡ Some n → result_ok (member_of General t) ≡ Some n
 id_name-so t n h = id-one (is_ok (id_of t)) h

@@ -115,3 +115,4 @@ abbrev pub member_text : Member → List ℕ
 member_text (member.Access n l) = profile_text n ++ (47 ∷ level_name l)
 member_text (member.SecurityLevel x n) = x ++ (47 ∷ number_text n)
 member_text (member.Category x) = x
+member_text (member.Traits traits) = []

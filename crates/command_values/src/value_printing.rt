@@ -165,7 +165,7 @@ fn push_member_name(out: &mut Vec<u8>, name: &MemberName) -> Result<(), AllocErr
     }
 }
 
-/// Writes a member as ADDMEM has it.
+/// Writes a member as ADDMEM has it, which has none of class CDT.
 fn push_member(out: &mut Vec<u8>, member: &Member) -> Result<(), AllocError>
     ensures { OnOk result (out.new.items ≡ out.old.items ++ member_text member.now) }
 {
@@ -181,6 +181,7 @@ fn push_member(out: &mut Vec<u8>, member: &Member) -> Result<(), AllocError>
             push_number(out, *number)
         }
         Member::Category(name) => out.extend_from_slice(name.text()),
+        Member::Traits(_) => Ok(()),
     }
 }
 

@@ -1,16 +1,23 @@
 -- Facts of one group and of one user, by what is kept of the groups.
 use Rattle.std.proofs.Common.{◌≡◌, ℕ, suc, zero, ◌+◌, ◌*◌, ◌<◌, ◌≤◌, Bool, true, false, List, [], ◌∷◌, ◌++◌, length, map, get_or, Option, Some, None, is_some, refl, sym, ap, ◌∙◌, arith}
-use Rattle.std.specs.Prelude.{not, ◌&&◌, ◌||◌, cond, find, bytes_eq, if◌then◌else◌}
-use Rattle.std.specs.List.{IsDistinct, AllByRecursion, list_any}
-use Rattle.std.specs.Option.{option_map, option_map_or, option_and_then}
+use Rattle.std.specs.Prelude.{not, ◌&&◌, ◌||◌, cond, nat_lt, find, bytes_eq, if◌then◌else◌}
+use Rattle.std.specs.List.{IsDistinct, AllByRecursion, list_any, slice_get}
+use Rattle.std.specs.Option.{option_map, option_map_or, option_and_then, option_eq}
+use Rattle.std.proofs.lemmas.List.{length-map}
 use Rattle.std.proofs.lemmas.Map.Keys.{IsDistinct-head, IsDistinct-tail}
 use Rattle.racf_profiles.specs.declared.groups.Group.{Group}
 use Rattle.racf_profiles.specs.declared.users.User.{User}
+use Rattle.racf_profiles.specs.declared.class_rows.ClassRow.{ClassRow}
+use Rattle.racf_profiles.specs.declared.profiles.Profile.{Profile}
 use Rattle.racf_profiles.specs.declared.rows.Rows.{Rows}
-use Rattle.racf_profiles.specs.Lookup.{find_group}
+use Rattle.racf_profiles.specs.DynamicClasses.{cdt, general, facts_in}
+use Rattle.racf_profiles.specs.LawfulProfiles.{names_of}
+use Rattle.racf_profiles.specs.Lookup.{find_group, profile_of}
 use Rattle.racf_profiles.specs.Names.{is_connected_to, is_special_user}
 use Rattle.racf_profiles.proofs.Named.{itself}
-use Rattle.database_image.specs.Facts.{Fact, told, told_of_each, first_broken, class_id_width, connect_width, class_id_facts, connect_facts, group_facts, user_facts, is_superior_in, is_there, user_width, class_width, class_facts, users_place, classes_place, later_facts}
+use Rattle.database_image.specs.Fields.{is_new}
+use Rattle.database_image.specs.Description.{fixed_names, is_class_at}
+use Rattle.database_image.specs.Facts.{Fact, told, told_of_each, first_broken, class_id_width, connect_width, class_id_facts, connect_facts, group_facts, user_facts, is_superior_in, is_there, user_width, class_width, class_facts, users_place, classes_place, later_facts, profile_width, name_facts, dynamic_facts}
 use Rattle.database_image.specs.Ways.{above, is_reached}
 use Rattle.database_image.proofs.Climbs.{reached-is-below}
 use Rattle.database_image.proofs.Told.{none-first, some-first, one-broken, one-holds}
@@ -111,3 +118,33 @@ any-found p (x ∷ items) = by (p x) (any-found p items)
     by : (b : Bool) → list_any p items ≡ is_some (find p items) → (b || list_any p items) ≡ is_some (cond b (Some x) (find p items))
     by true h = refl
     by false h = h
+
+-- ---- classes by their names, and the facts of a dynamic one
+pub any-named : (name : List ℕ) (classes : List ClassRow) → list_any (λ (class : ClassRow). bytes_eq name class.name) classes ≡ list_any (bytes_eq name) (names_of classes)
+any-named name [] = refl
+any-named name (c ∷ classes) = ap (λ b. bytes_eq name c.name || b) (any-named name classes)
+
+count-of : (classes : List ClassRow) → length (names_of classes) ≡ length classes
+count-of classes = length-map classes (λ (class : ClassRow). class.name)
+
+-- the name at a place, by the count of the classes before
+abbrev at_count : (before : List ClassRow) (name : List ℕ) → ℕ → Bool
+at_count before name n = if nat_lt n 15 then option_eq bytes_eq (slice_get fixed_names n) (Some name) else is_new (names_of before) name
+
+abbrev by_test : (before : List ClassRow) (name : List ℕ) → Bool → Bool
+by_test before name b = if b then option_eq bytes_eq (slice_get fixed_names (length before)) (Some name) else is_new (names_of before) name
+
+pub named-fixed : (before : List ClassRow) (name : List ℕ) → nat_lt (length before) 15 ≡ true → option_eq bytes_eq (slice_get fixed_names (length before)) (Some name) ≡ is_class_at (names_of before) name
+named-fixed before name h = sym (ap (at_count before name) (count-of before) ∙ ap (by_test before name) h)
+
+pub named-new : (before : List ClassRow) (name : List ℕ) → nat_lt (length before) 15 ≡ false → is_new (names_of before) name ≡ is_class_at (names_of before) name
+named-new before name h = sym (ap (at_count before name) (count-of before) ∙ ap (by_test before name) h)
+
+pub undefined-first : (rows : Rows) (place : ℕ) (class : ClassRow) → is_some (profile_of cdt (general class.name) rows) ≡ false → Some place ≡ first_broken (dynamic_facts rows place class)
+undefined-first rows place class h = sym (ap (λ b. first_broken (told place b ∷ told_of_each profile_width (name_facts rows (facts_in class.name rows)) (place + 14) class.profiles)) h)
+
+pub names-behind : (rows : Rows) (place : ℕ) (class : ClassRow) (profiles : List Profile) → profiles ≡ class.profiles → is_some (profile_of cdt (general class.name) rows) ≡ true
+    → first_broken (told_of_each profile_width (name_facts rows (facts_in class.name rows)) (place + 14) profiles) ≡ first_broken (dynamic_facts rows place class)
+names-behind rows place class profiles e h =
+    ap (λ (ps : List Profile). first_broken (told_of_each profile_width (name_facts rows (facts_in class.name rows)) (place + 14) ps)) e
+    ∙ sym (ap (λ b. first_broken (told place b ∷ told_of_each profile_width (name_facts rows (facts_in class.name rows)) (place + 14) class.profiles)) h)

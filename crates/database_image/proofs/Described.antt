@@ -18,14 +18,13 @@ use Rattle.racf_profiles.specs.declared.profiles.Member.{Member}
 use Rattle.racf_profiles.specs.declared.profiles.Member.TheVariants as members
 use Rattle.racf_profiles.specs.declared.class_rows.ClassRow.{ClassRow}
 use Rattle.racf_profiles.specs.declared.rows.Rows.{Rows}
-use Rattle.racf_profiles.specs.ClassTable.{fixed_classes}
 use Rattle.racf_profiles.specs.Names.{connections}
 use Rattle.racf_profiles.specs.Counts.{profile_count, entry_count, entries_in}
-use Rattle.racf_profiles.specs.Limits.{most_users, most_groups, most_connections, most_connections_in_all, most_class_profiles, most_profiles, most_list_entries, most_entries_in_all, most_members, most_categories}
-use Rattle.racf_profiles.specs.LawfulProfiles.{kind_in, member_name}
+use Rattle.racf_profiles.specs.Limits.{most_users, most_groups, most_connections, most_connections_in_all, most_class_profiles, most_profiles, most_list_entries, most_entries_in_all, most_categories}
+use Rattle.racf_profiles.specs.LawfulProfiles.{kind_in, member_name, names_of}
 use Rattle.database_image.specs.Forms.{Form, Spelling, the, followed, done, field, number, number_spelling, listed}
 use Rattle.database_image.specs.Fields.{any, below, at_most, id_text, group_text, itself, text_or_none, unless_blank, who_text, who_of, filled_spelling, rank_spelling, set_spelling, text_spelling, bit, is_set, is_new}
-use Rattle.database_image.specs.Description.{within, option_flags, options, is_superior_of, group, attribute_flags, attributes_of, attributes, connect_flags, connection, printable, user, spelled_text, pattern_in, member_in, is_pattern_at, audit_rank, audit_levels, flag_rank, entry, entry_key, port_rank, cond_key, cond_entry, cond_entry_key, member_kind, is_kind_in, resources_of, level_of_member, number_of_member, is_new_member, member_of_kind, member, profile, class_flags, are_class_flags, is_class_at, log_rank, log_options, class, image}
+use Rattle.database_image.specs.Description.{within, option_flags, options, is_superior_of, group, attribute_flags, attributes_of, attributes, connect_flags, connection, printable, user, spelled_text, pattern_in, member_in, is_pattern_at, audit_rank, audit_levels, flag_rank, entry, entry_key, port_rank, cond_key, cond_entry, cond_entry_key, member_kind, is_kind_in, resources_of, level_of_member, number_of_member, trait_flags, longest_of_member, is_new_member, member_of_kind, member, is_member_count, profile, class_flags, are_class_flags, is_class_at, log_rank, log_options, class, image_by}
 use Rattle.database_image.specs.Facts.{group_width, connect_width, user_width, member_width, profile_width, class_width, classes_place}
 use Rattle.database_image.proofs.Wide.{IsWide, wide-field, wide-followed, wide-done, wide-listed, same_width}
 use Rattle.database_image.proofs.Exact.{IsExact, IsUnique, IsSteady, exact-field, exact-followed, exact-done, exact-listed}
@@ -111,6 +110,9 @@ flag n value = bit-is value (n / value % 2) (rest-below (n / value))
 
 lt-of : (n limit : ℕ) → IsTrue (nat_lt n limit) → n < limit
 lt-of n limit h = ltb-true n limit h
+
+flags-2 : (n : ℕ) → n < 4 → bit 1 (is_set n 1) + bit 2 (is_set n 2) ≡ n
+flags-2 n h = rw (flag n 1, flag n 2) omega (arith, h)
 
 flags-3 : (n : ℕ) → n < 8 → bit 1 (is_set n 1) + bit 2 (is_set n 2) + bit 4 (is_set n 4) ≡ n
 flags-3 n h = rw (flag n 1, flag n 2, flag n 4) omega (arith, h)
@@ -296,21 +298,41 @@ category_member_ names before =
     done_ (members.Category name))
     (λ k x f h. ap (member_name) h)
 
+both-true : (a b : Bool) → IsTrue (a && b) → IsTrue a
+both-true true b h = refl
+both-true false b h = absurd cc
+
+abbrev are_trait_flags : List Member → ℕ → Bool
+are_trait_flags before flags = nat_lt flags 4 && is_new_member before []
+
+traits-below : (before : List Member) (flags : ℕ) → IsTrue (are_trait_flags before flags) → IsTrue (nat_lt flags 4)
+traits-below before flags h = both-true (nat_lt flags 4) (is_new_member before []) h
+
+abbrev traits_member_ : (before : List Member) → Exact Member
+traits_member_ before =
+    then_ (trait_flags) (byte_ (are_trait_flags before)) (λ flags.
+    then_ (longest_of_member) (byte_ (λ n. nat_le 1 n && nat_le n 246)) (λ longest.
+    done_ (members.Traits (record { operations = is_set flags 1; ids = is_set flags 2; longest = longest })))
+    (λ k x f h. ap (longest_of_member) h))
+    (λ k x f h. ap (trait_flags) h.1 ∙ flags-2 k (lt-of k 4 (traits-below before k f.1)))
+
 exact-member_of_kind : (names : List (List ℕ)) (profile : List ℕ) (before : List Member) (kind : ℕ) → IsExact (member_of_kind names profile before kind)
-exact-member_of_kind names profile before zero = (category_member_ names before).exact
+exact-member_of_kind names profile before zero = (traits_member_ before).exact
 exact-member_of_kind names profile before (suc zero) = (access_member_ profile before).exact
 exact-member_of_kind names profile before (suc (suc zero)) = (level_member_ before).exact
-exact-member_of_kind names profile before (suc (suc (suc n))) = (category_member_ names before).exact
+exact-member_of_kind names profile before (suc (suc (suc zero))) = (category_member_ names before).exact
+exact-member_of_kind names profile before (suc (suc (suc (suc n)))) = (traits_member_ before).exact
 
-kind-far : (class profile : List ℕ) (kind : ℕ) → 3 < kind → is_kind_in class profile kind ≡ false
-kind-far class profile kind h = rw (ne_eqb kind 1 (λ e. omega (arith, e, h)), ne_eqb kind 2 (λ e. omega (arith, e, h)), ne_eqb kind 3 (λ e. omega (arith, e, h))) refl
+kind-far : (class profile : List ℕ) (kind : ℕ) → 4 < kind → is_kind_in class profile kind ≡ false
+kind-far class profile kind h = rw (ne_eqb kind 1 (λ e. omega (arith, e, h)), ne_eqb kind 2 (λ e. omega (arith, e, h)), ne_eqb kind 3 (λ e. omega (arith, e, h)), ne_eqb kind 4 (λ e. omega (arith, e, h))) refl
 
 kind-pinned : (names : List (List ℕ)) (class profile : List ℕ) (before : List Member) (kind : ℕ) (x : Member) → IsTrue (is_kind_in class profile kind) → (member_of_kind names profile before kind).Fits x → member_kind x ≡ kind
 kind-pinned names class profile before zero x f h = let e : false ≡ true = f in absurd cc
 kind-pinned names class profile before (suc zero) x f h = ap member_kind h.1.1
 kind-pinned names class profile before (suc (suc zero)) x f h = ap member_kind h.1.1
 kind-pinned names class profile before (suc (suc (suc zero))) x f h = ap member_kind h.1
-kind-pinned names class profile before (suc (suc (suc (suc n)))) x f h = let e : false ≡ true = sym (kind-far class profile (suc (suc (suc (suc n)))) (omega arith)) ∙ f in absurd cc
+kind-pinned names class profile before (suc (suc (suc (suc zero)))) x f h = ap member_kind h.1.1
+kind-pinned names class profile before (suc (suc (suc (suc (suc n))))) x f h = let e : false ≡ true = sym (kind-far class profile (suc (suc (suc (suc (suc n))))) (omega arith)) ∙ f in absurd cc
 
 pub exact-member : (names : List (List ℕ)) (class profile : List ℕ) (before : List Member) → IsExact (member names class profile before)
 unfolding member
@@ -323,6 +345,8 @@ behind-kind names profile before (members.SecurityLevel name number) f =
     let k = (level_member_ before).wide (members.SecurityLevel name number) f in omega (arith, k)
 behind-kind names profile before (members.Category name) f =
     let k = (category_member_ names before).wide (members.Category name) f in omega (arith, k)
+behind-kind names profile before (members.Traits traits) f =
+    let k = (traits_member_ before).wide (members.Traits traits) f in omega (arith, k)
 
 wide-member : (names : List (List ℕ)) (class profile : List ℕ) (before : List Member) → IsWide (member names class profile before) member_width
 unfolding member
@@ -340,7 +364,8 @@ steady-kind : (names : List (List ℕ)) (profile : List ℕ) (before : List Memb
 steady-kind names profile before zero x = refl
 steady-kind names profile before (suc zero) x = refl
 steady-kind names profile before (suc (suc zero)) x = refl
-steady-kind names profile before (suc (suc (suc n))) x = refl
+steady-kind names profile before (suc (suc (suc zero))) x = refl
+steady-kind names profile before (suc (suc (suc (suc n)))) x = refl
 
 pub steady-member : (names : List (List ℕ)) (class profile : List ℕ) → IsSteady (member names class profile)
 unfolding member
@@ -363,7 +388,7 @@ profile_ names class entries before =
     then_ (λ (p : Profile). p.label) (label_) (λ label.
     then_ (λ (p : Profile). p.standard) (listed_ 2 (within most_list_entries most_entries_in_all (entries + sum_by entries_in before)) entry unique-2 exact-entry steady-entry (λ x. 9) wide-entry) (λ standard.
     then_ (λ (p : Profile). p.conditional) (listed_ 2 (within most_list_entries most_entries_in_all (entries + sum_by entries_in before + length standard)) cond_entry unique-2 exact-cond_entry steady-cond_entry (λ x. 18) wide-cond_entry) (λ conditional.
-    then_ (λ (p : Profile). p.members) (listed_ 2 (at_most most_members) (member names class name.text) unique-2 (exact-member names class name.text) (steady-member names class name.text) member_width (wide-member names class name.text)) (λ members.
+    then_ (λ (p : Profile). p.members) (listed_ 2 (is_member_count class) (member names class name.text) unique-2 (exact-member names class name.text) (steady-member names class name.text) member_width (wide-member names class name.text)) (λ members.
     done_ (record { name = name; owner = owner; uacc = uacc; warning = warning; standard = standard; conditional = conditional; level = level; categories = set; label = label; audit = record { success = success; failures = failures }; global_audit = record { success = global_success; failures = global_failures }; members = members }))
     (λ k x f h. ap (λ (p : Profile). p.members) h))
     (λ k x f h. ap (λ (p : Profile). p.conditional) h.1))
@@ -394,10 +419,6 @@ pub steady-profile : (names : List (List ℕ)) (class : List ℕ) (entries : ℕ
 unfolding profile
 steady-profile names class entries before x = refl
 
-both-true : (a b : Bool) → IsTrue (a && b) → IsTrue a
-both-true true b h = refl
-both-true false b h = absurd cc
-
 class-below : (name : List ℕ) (flags : ℕ) → IsTrue (are_class_flags name flags) → IsTrue (nat_lt flags 8)
 class-below name flags h = both-true (nat_lt flags 8) _ (both-true _ _ h)
 
@@ -405,7 +426,7 @@ class-below name flags h = both-true (nat_lt flags 8) _ (both-true _ _ h)
 
 abbrev class_ : (names : List (List ℕ)) (before : List ClassRow) → Exact ClassRow
 class_ names before =
-    then_ (λ (c : ClassRow). c.name) (id_ (is_class_at (length before))) (λ name.
+    then_ (λ (c : ClassRow). c.name) (id_ (is_class_at (names_of before))) (λ name.
     then_ (λ (c : ClassRow). class_flags c) (byte_ (are_class_flags name)) (λ flags.
     then_ (λ (c : ClassRow). c.log) (ranked_ log_rank log_options) (λ log.
     then_ (λ (c : ClassRow). c.profiles) (listed_ 4 (within most_class_profiles most_profiles (profile_count before)) (profile names name (entry_count before)) unique-4 (exact-profile names name (entry_count before)) (steady-profile names name (entry_count before)) profile_width (wide-profile names name (entry_count before))) (λ profiles.
@@ -436,23 +457,23 @@ whole_options = record { form = options; exact = exact-options; width = λ o. 3 
 
 -- ---- image
 
-abbrev image_ : Exact Rows
-image_ =
+abbrev image_ : (is_count : ℕ → Bool) → Exact Rows
+image_ is_count =
     then_ (λ (r : Rows). r.options) (whole_options) (λ options.
     then_ (λ (r : Rows). r.groups) (listed_ 4 (at_most most_groups) group unique-4 exact-group steady-group group_width wide-group) (λ groups.
     then_ (λ (r : Rows). r.users) (listed_ 4 (at_most most_users) (user (length options.categories)) unique-4 (exact-user (length options.categories)) (steady-user (length options.categories)) user_width (wide-user (length options.categories))) (λ users.
-    then_ (λ (r : Rows). r.classes) (listed_ 2 (λ count. count == length fixed_classes) (class options.categories) unique-2 (exact-class options.categories) (steady-class options.categories) class_width (wide-class options.categories)) (λ classes.
+    then_ (λ (r : Rows). r.classes) (listed_ 2 is_count (class options.categories) unique-2 (exact-class options.categories) (steady-class options.categories) class_width (wide-class options.categories)) (λ classes.
     done_ (record { users = users; groups = groups; classes = classes; options = options }))
     (λ k x f h. ap (λ (r : Rows). r.classes) h))
     (λ k x f h. ap (λ (r : Rows). r.users) h.1))
     (λ k x f h. ap (λ (r : Rows). r.groups) h.1.1))
     (λ k x f h. ap (λ (r : Rows). r.options) h.1.1.1)
 
-pub exact-image : IsExact (image)
-unfolding image
-exact-image = (image_).exact
+pub exact-image : (is_count : ℕ → Bool) → IsExact (image_by is_count)
+unfolding image_by
+exact-image is_count = (image_ is_count).exact
 
--- The whole image has as many bytes as the widths of its parts say.
-pub wide-image : (rows : Rows) → image.Fits rows → length (image.bytes rows) ≡ classes_place rows + sum_by class_width rows.classes
-unfolding image
-wide-image rows f = let k : length (image.bytes rows) ≡ (image_).width rows = (image_).wide rows f in omega (arith, k, same_width 24 rows.groups)
+-- The whole image has as many bytes as the widths of its parts say, in either layout.
+pub wide-image : (is_count : ℕ → Bool) (rows : Rows) → (image_by is_count).Fits rows → length ((image_by is_count).bytes rows) ≡ classes_place rows + sum_by class_width rows.classes
+unfolding image_by
+wide-image is_count rows f = let k : length ((image_by is_count).bytes rows) ≡ (image_ is_count).width rows = (image_ is_count).wide rows f in omega (arith, k, same_width 24 rows.groups)

@@ -1,8 +1,8 @@
 -- The profiles of lawful rows fit.
 use Rattle.std.proofs.Common.{◌≡◌, ℕ, zero, suc, ◌+◌, ◌<◌, ◌≤◌, Bool, true, false, cond, List, [], ◌∷◌, ◌++◌, length, map, Option, Some, None, is_ok, is_some, bytes_eq, refl, sym, ap, subst, ◌∙◌, true≢false, arith, take, drop}
-use Rattle.std.specs.Prelude.{not, ◌&&◌, ◌||◌, ◌==◌, codes, nat_lt, nat_le, find}
+use Rattle.std.specs.Prelude.{not, ◌&&◌, ◌||◌, ◌==◌, codes, nat_lt, nat_le, find, if◌then◌else◌}
 use Rattle.std.specs.List.{AllByRecursion, IsDistinct, list_any, list_all, sum_by}
-use Rattle.std.specs.Option.{option_map_or}
+use Rattle.std.specs.Option.{option_map, option_map_or, option_or}
 use Rattle.std.proofs.lemmas.Bool.{and_parts, and_from, leb-true, false_from_ne_true}
 use Rattle.std.proofs.lemmas.Bool.Decides.{nat_tests}
 use Rattle.std.proofs.lemmas.List.{take_at, drop_at}
@@ -33,6 +33,8 @@ use Rattle.racf_profiles.specs.declared.fixed_classes.NameForm.TheVariants as na
 use Rattle.racf_profiles.specs.declared.fixed_classes.ClassFacts.{ClassFacts}
 use Rattle.racf_profiles.specs.declared.rows.Rows.{Rows}
 use Rattle.racf_profiles.specs.ClassTable.{facts_of}
+use Rattle.racf_profiles.specs.DynamicClasses.{cdt, traits_of, traits_in, facts_of_traits, facts_in, is_short}
+use Rattle.racf_profiles.specs.Limits.{most_members}
 use Rattle.racf_profiles.specs.Counts.{entries_in}
 use Rattle.racf_profiles.specs.Edits.{comes_first, is_in_order}
 use Rattle.racf_profiles.specs.Lookup.{is_class}
@@ -41,12 +43,12 @@ use Rattle.racf_profiles.specs.LawfulProfiles as lawful_names
 use Rattle.racf_profiles.specs.Lawful.{AreLawful}
 use Rattle.racf_profiles.proofs.Named.{same, itself, turned}
 use Rattle.database_image.specs.Forms.{ItemsFit}
-use Rattle.database_image.specs.Fields.{is_new, filled, who_text, text_in}
-use Rattle.database_image.specs.Description.{is_named_by, is_name_in, comes_behind, is_pattern_at, entry, entry_key, port_rank, cond_entry, cond_entry_key, member, profile}
+use Rattle.database_image.specs.Fields.{bit, is_new, filled, who_text, text_in}
+use Rattle.database_image.specs.Description.{is_named_by, is_name_in, comes_behind, is_pattern_at, entry, entry_key, port_rank, cond_entry, cond_entry_key, trait_flags, member, is_member_count, profile}
 use Rattle.database_image.specs.Spelled.{IsId, IsWho, IsPatternName, IsMemberName, IsSpelledMember, IsSpelledProfile, IsSpelledClass, AreSpelled}
 use Rattle.database_image.proofs.Honest.{filled-id, no-star}
-use Rattle.database_image.proofs.JudgedRows.{same-kind, pattern-read, member-read, spelled-size, longest-at-most}
-use Rattle.database_image.proofs.FitFields.{spelled-number, at-most, spelled-set, spelled-id, spelled-label, spelled-who, spelled-level, spelled-port, spelled-flag, spelled-audit, items-fit, new-in}
+use Rattle.database_image.proofs.JudgedRows.{two-below, flags-traits, same-kind, pattern-read, member-read, spelled-size, longest-at-most}
+use Rattle.database_image.proofs.FitFields.{spelled-number, at-most, below-limit, spelled-set, spelled-id, spelled-label, spelled-who, spelled-level, spelled-port, spelled-flag, spelled-audit, items-fit, new-in}
 use Rattle.database_image.proofs.FitGroups.{all-of, all-both}
 use Rattle.database_image.proofs.FitUsers.{set-below, all-pass}
 
@@ -153,6 +155,12 @@ pub member-length : (name : Spelled) → IsMemberName name → (nat_le 1 (length
 member-length name h = let s = spelled-size (length name.text == 0) (nat_lt (longest name.kind) (length name.text)) _ name name h in and_from _ _ (some-length (length name.text) s.0) (most-length (longest name.kind) (length name.text) s.1)
 
 -- ---- members
+two-few : (a b : Bool) → bit 1 a + bit 2 b < 4
+two-few true true = omega arith
+two-few true false = omega arith
+two-few false true = omega arith
+two-few false false = omega arith
+
 module _ (categories : List (List ℕ)) (class profile_name : List ℕ) where
   member-at : (before : List Member) (m : Member) → IsSpelledMember m → is_new (map member_name before) (member_name m) ≡ true → (options : Options) → is_member_of options class profile_name m ≡ true → categories ≡ options.categories → (member categories class profile_name before).Fits m
   unfolding member
@@ -168,6 +176,12 @@ module _ (categories : List (List ℕ)) (class profile_name : List ℕ) where
       let three = and_parts (bytes_eq class (codes "SECDATA") && bytes_eq profile_name (codes "SECLEVEL") && nat_le 1 number) (nat_le number 254) h in
       let two = and_parts (bytes_eq class (codes "SECDATA") && bytes_eq profile_name (codes "SECLEVEL")) (nat_le 1 number) three.0 in
       ((spelled-number 1 2 (omega arith), let g = two.0 in rw g refl), ((spelled-id name k.0, new), ((spelled-number 1 number k.1, and_from _ _ two.1 three.1), refl)))
+  member-at before (members.Traits traits) k new options h e =
+      let three = and_parts (bytes_eq class cdt && nat_le 1 traits.longest) (nat_le traits.longest 246) h in
+      let two = and_parts (bytes_eq class cdt) (nat_le 1 traits.longest) three.0 in (
+        (spelled-number 1 4 (omega arith), let g = two.0 in rw g refl),
+        ((spelled-number 1 (trait_flags (members.Traits traits)) (two-below traits.operations traits.ids), and_from _ _ (below-limit (trait_flags (members.Traits traits)) 4 (two-few traits.operations traits.ids)) new), ((spelled-number 1 traits.longest k, and_from _ _ two.1 three.1), flags-traits traits)),
+      )
   member-at before (members.Category name) k new options h e =
       let two = and_parts (bytes_eq class (codes "SECDATA") && bytes_eq profile_name (codes "CATEGORY")) (list_any (λ other. bytes_eq other name) options.categories) h in
       ((spelled-number 1 3 (omega arith), let g = two.0 in rw g refl), ((spelled-id name k, and_from _ _ new (ap (list_any (λ other. bytes_eq other name)) e ∙ two.1)), refl))
@@ -177,6 +191,22 @@ members-fit options class profile_name ms all distinct fitting =
     items-fit (member options.categories class profile_name) (λ m. IsSpelledMember m × (is_member_of options class profile_name m ≡ true)) ms
     (λ before m rest e k. member-at options.categories class profile_name before m k.0 (new-in member_name before m rest ms e distinct) options k.1 refl)
     [] ms refl (all-both IsSpelledMember (λ m. is_member_of options class profile_name m ≡ true) ms all (all-pass (is_member_of options class profile_name) ms fitting))
+
+-- how many members a profile has
+one-trait : (ms : List Member) → is_some (traits_of ms) ≡ true → length ms ≡ 1
+one-trait [] h = absurd cc
+one-trait (members.Traits traits ∷ []) h = refl
+one-trait (members.Traits traits ∷ m ∷ ms) h = absurd cc
+one-trait (members.Access resources level ∷ ms) h = absurd cc
+one-trait (members.SecurityLevel name number ∷ ms) h = absurd cc
+one-trait (members.Category name ∷ ms) h = absurd cc
+
+member-count : (class : List ℕ) (ms : List Member) → length ms ≤ 1000 → (not (bytes_eq class cdt) || is_some (traits_of ms)) ≡ true → is_member_count class (length ms) ≡ true
+member-count class ms few traits = by (bytes_eq class cdt) traits
+  where
+    by : (b : Bool) → (not b || is_some (traits_of ms)) ≡ true → (if b then length ms == 1 else nat_le (length ms) most_members) ≡ true
+    by true h = ap (λ n. n == 1) (one-trait ms h)
+    by false h = at-most (length ms) 1000 few
 
 -- ---- the name of a profile
 class-id : (classes : List ClassRow) (q : List ℕ) → AllByRecursion IsSpelledClass classes → is_some (find (is_class q) classes) ≡ true → IsId q
@@ -203,15 +233,15 @@ module _ (rows : Rows) (lawful : AreLawful rows) (spelled : AreSpelled rows) whe
   named-so names.Identifier text h = h
   named-so names.Class text h = ok-id text (class-id rows.classes text spelled.classes h)
 
-  placed : (class : List ℕ) (before : List Profile) (name : Spelled) → option_map_or (is_profile_name rows name) (facts_of class) false ≡ true → comes_behind before name ≡ true → is_pattern_at class before name ≡ true
+  placed : (class : List ℕ) (before : List Profile) (name : Spelled) → option_map_or (is_profile_name rows name) (facts_in class rows) false ≡ true → comes_behind before name ≡ true → is_pattern_at class before name ≡ true
   unfolding is_pattern_at
-  placed class before name h k = by (facts_of class) h
+  placed class before name h k = and_from _ _ (by (facts_of class) h) k
     where
-      by : (o : Option ClassFacts) → option_map_or (is_profile_name rows name) o false ≡ true → option_map_or (λ facts. is_name_in facts name && comes_behind before name) o false ≡ true
-      by None h = absurd cc
+      by : (o : Option ClassFacts) → option_map_or (is_profile_name rows name) (option_or o (option_map facts_of_traits (traits_in class rows))) false ≡ true → option_map_or (λ facts. is_name_in facts name) o true ≡ true
+      by None h = refl
       by (Some facts) h =
-          let parts = and_parts (lawful_names.is_named_by facts.names rows name.text) (not (is_generic name) || facts.generic) h in
-          and_from _ _ (and_from _ _ (named-so facts.names name.text parts.0) parts.1) k
+          let parts = and_parts (lawful_names.is_named_by facts.names rows name.text) (is_short facts name.text && (not (is_generic name) || facts.generic)) h in
+          and_from _ _ (named-so facts.names name.text parts.0) (and_parts (is_short facts name.text) (not (is_generic name) || facts.generic) parts.1).1
 
   -- ---- a profile of a class, where so many entries are in the classes before
   module _ (class : List ℕ) (entries : ℕ) (all : List Profile) (are : AreProfiles (kind_in class) all) (few : entries + sum_by entries_in all ≤ 1000000) where
@@ -267,7 +297,7 @@ module _ (rows : Rows) (lawful : AreLawful rows) (spelled : AreSpelled rows) whe
                                   ),
                                   (
                                     (
-                                      (spelled-number 2 (length p.members) (omega (arith, is.members.few)), at-most (length p.members) 1000 is.members.few),
+                                      (spelled-number 2 (length p.members) (omega (arith, is.members.few)), member-count class p.members is.members.few is.members.traits),
                                       members-fit rows.options class p.name.text p.members s.members is.members.distinct is.members.fitting,
                                     ),
                                     refl,

@@ -13,10 +13,10 @@ use Rattle.racf_profiles.specs.declared.users.User.{User}
 use Rattle.racf_profiles.specs.declared.users.Connect.{Connect}
 use Rattle.racf_profiles.specs.declared.class_rows.ClassRow.{ClassRow}
 use Rattle.racf_profiles.specs.declared.rows.Rows.{Rows}
-use Rattle.racf_profiles.specs.ClassTable.{class_name, fixed_classes}
 use Rattle.racf_profiles.specs.Lookup.{find_group, is_class, class_of}
 use Rattle.racf_profiles.specs.Names.{is_to, is_connected_to, is_class_word, connections, connected_to}
 use Rattle.racf_profiles.specs.LawfulUsers.{IsUser, is_clauth_class, is_printable}
+use Rattle.racf_profiles.specs.LawfulProfiles.{names_of}
 use Rattle.racf_profiles.specs.Lawful.{AreLawful}
 use Rattle.racf_profiles.proofs.Named.{same, turned}
 use Rattle.database_image.specs.Forms.{ItemsFit}
@@ -66,15 +66,17 @@ among-classes (c ∷ classes) q h = by (bytes_eq c.name q) refl (among-classes c
 
 module _ (rows : Rows) (lawful : AreLawful rows) (spelled : AreSpelled rows) where
   -- no user has more classes than there are words
-  words : (q : List ℕ) → is_clauth_class rows q ≡ true → is_among bytes_eq (codes "USER" ∷ map class_name fixed_classes) q ≡ true
+  words : (q : List ℕ) → is_clauth_class rows q ≡ true → is_among bytes_eq (codes "USER" ∷ names_of rows.classes) q ≡ true
   words q h =
       let word = (and_parts (is_class_word rows q) _ h).0 in
       ⊎_elim (λ t. or_left (bytes_eq q (codes "USER")) _ t)
-      (λ c. or_right (bytes_eq q (codes "USER")) _ (subst (λ names. is_among bytes_eq names q ≡ true) lawful.classes.fixed (among-classes rows.classes q c)))
+      (λ c. or_right (bytes_eq q (codes "USER")) _ (among-classes rows.classes q c))
       (or_cases (bytes_eq q (codes "USER")) (is_some (class_of q rows)) word)
 
-  few-words : (names : List (List ℕ)) → IsDistinct bytes_eq names → list_all (is_clauth_class rows) names ≡ true → length names ≤ 15
-  few-words names distinct all = length-le_from_is_member nat_list_eq_equiv names (codes "USER" ∷ map class_name fixed_classes) distinct (λ q m. words q (passes (is_clauth_class rows) names q all m))
+  few-words : (names : List (List ℕ)) → IsDistinct bytes_eq names → list_all (is_clauth_class rows) names ≡ true → length names ≤ 48
+  few-words names distinct all =
+      let few = length-le_from_is_member nat_list_eq_equiv names (codes "USER" ∷ names_of rows.classes) distinct (λ q m. words q (passes (is_clauth_class rows) names q all m)) in
+      omega (arith, few, lawful.classes.names.few)
 
   -- ---- connections
   connected-there : (group : List ℕ) (cs : List Connect) → list_any (is_to group) cs ≡ true → AllByRecursion (λ (c : Connect). is_some (find_group rows.groups c.group) ≡ true) cs → is_some (find_group rows.groups group) ≡ true
@@ -104,7 +106,7 @@ module _ (rows : Rows) (lawful : AreLawful rows) (spelled : AreSpelled rows) whe
       let name = and_parts (nat_le (length u.name) 20) (list_all is_printable u.name) is.name in
       let short : length u.name ≤ 20 = leb-true (length u.name) 20 name.0 in
       let set = set-below u.categories (length rows.options.categories) lawful.categories.few is.categories in
-      let few : length u.classes ≤ 15 = few-words u.classes is.classes_distinct is.classes_there in
+      let few : length u.classes ≤ 48 = few-words u.classes is.classes_distinct is.classes_there in
       let sum : connections rows.users ≡ connections before + (length u.connects + connections rest) = ap connections (sym e) ∙ sum_by-append connected_to before (u ∷ rest) ∙ ap (λ n. connections before + n) (sum_by-cons connected_to u rest) in
       let in_all : connections before + length u.connects ≤ 200000 = omega (arith, sum, lawful.few_connections) in
       let default = connected-there u.default_group u.connects is.connections.default is.connections.there in (

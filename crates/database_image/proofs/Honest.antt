@@ -35,7 +35,7 @@ use Rattle.database_image.specs.Facts.{told, first_broken}
 use Rattle.database_image.specs.Misleading.{has_room, is_of_bytes}
 use Rattle.database_image.specs.Spelled.{IsId, IsIdOrNone, IsWho}
 use Rattle.database_image.proofs.Exact.{IsUnique, exact-field, spelled_again}
-use Rattle.database_image.proofs.Judged.{IsJudged, FindsIn, IsWhole, Judgement}
+use Rattle.database_image.proofs.Judged.{IsJudged, FindsIn, IsWhole, Judgement, number_read}
 
 -- ---- a field
 
@@ -83,7 +83,7 @@ module _ {A : Type 0} (s : Spelling A) (is_lawful : A → Bool) (x : A) where
   none-left : (width : ℕ) → 0 < width → nat_lt 0 width ≡ true
   none-left width h = grind (arith, nat_tests)
 
-  nothing_read : 0 < s.width → (field s is_lawful).reading [] ≡ Err 0
+  pub nothing_read : 0 < s.width → (field s is_lawful).reading [] ≡ Err 0
   unfolding spelled_at
   nothing_read h = rw (none-left s.width h) refl
 
@@ -111,6 +111,27 @@ judged-marked s is_lawful Kept test unique may = record {
   again = λ x h rest. (exact-field s is_lawful unique).again x rest h;
   judged = λ x k begin. marked s is_lawful x (test x) (may.honest x k) (λ e f. may.unspelled x k e f.0) (may.some x k) begin;
 }
+
+-- ---- a number of which more is read than is lawful
+module _ (width : ℕ) (is_lawful is_read test : ℕ → Bool) (unique : IsUnique (number_spelling width)) (some : 0 < width) (positive : 0 < 256 ^ width)
+    (more : (n : ℕ) → is_lawful n ≡ true → is_read n ≡ true) (alike : (n : ℕ) → test n ≡ true → is_read n ≡ is_lawful n) (honest : (n : ℕ) → test n ≡ true → IsHonest (number_spelling width) n)
+    (unfit : (n : ℕ) → test n ≡ false → IsSpelled (number_spelling width) n → is_lawful n ≡ true → ⊥) where
+  read-whole : (n : ℕ) → test n ≡ true → IsWhole ((number_read width is_lawful is_read).Fits n) ((number_read width is_lawful is_read).FaultAt n) (big_bytes width n) (number_read width is_lawful is_read).reading
+  read-whole n e =
+      subst (λ (b : Bool). IsWhole (IsSpelled (number_spelling width) n × (b ≡ true)) (λ place. ¬ (IsSpelled (number_spelling width) n × (b ≡ true)) × (place ≡ 0)) (big_bytes width n) (number_read width is_lawful is_read).reading)
+      (alike n e) (honest-whole (number_spelling width) is_read n (honest n e))
+
+  read-marked : (n : ℕ) (b : Bool) → test n ≡ b → (begin : ℕ) → Judgement ((number_read width is_lawful is_read).Fits n) ((number_read width is_lawful is_read).FaultAt n) (big_bytes width n) (number_read width is_lawful is_read).reading begin (first_broken (told begin b ∷ []))
+  read-marked n true e begin = read-whole n e
+  read-marked n false e begin =
+      record { count = 0; at = omega arith; within = omega arith; found = record { place = 0; left = 0; is = (λ f. unfit n e f.0 f.1, refl); whole = refl; reads = nothing_read (number_spelling width) is_read n some } }
+
+  pub judged-read : IsJudged (number_read width is_lawful is_read) (λ n. width) (λ n. Unit {0}) (λ begin n. told begin (test n) ∷ [])
+  judged-read = record {
+    wide = λ n k. sym (length-bytes_high_first width n);
+    again = λ n h rest. (exact-field (number_spelling width) is_read unique).again n rest (h.0, more n h.1);
+    judged = λ n k begin. read-marked n (test n) refl begin;
+  }
 
 -- ---- numbers
 room : (width n : ℕ) → has_room width n ≡ true → n < 256 ^ width

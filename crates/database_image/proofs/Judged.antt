@@ -1,6 +1,6 @@
 -- A value is judged by its bytes as it is by itself: where bytes are read that were written up to a field that
 -- misleads, the fault that is found is the value's first. Each way to make a form of others keeps this.
-use Rattle.std.proofs.Common.{◌≡◌, ◌⊎◌, ℕ, suc, ◌+◌, ◌≤◌, Bool, List, [], ◌∷◌, ◌++◌, length, take, Option, Some, None, Result, Ok, Err, refl, sym, ap, subst, ◌∙◌, append_assoc, length-append, arith, inl, inr, zero-add}
+use Rattle.std.proofs.Common.{◌≡◌, ◌⊎◌, ℕ, suc, ◌+◌, ◌≤◌, Bool, true, List, [], ◌∷◌, ◌++◌, length, take, Option, Some, None, Result, Ok, Err, refl, sym, ap, subst, ◌∙◌, append_assoc, length-append, arith, inl, inr, zero-add}
 use Rattle.std.specs.List.{flat_map, AllByRecursion, sum_by}
 use Rattle.std.specs.Option.{option_or}
 use Rattle.std.proofs.lemmas.List.{take-append-le}
@@ -61,6 +61,13 @@ decided-listed width is_lawful item decided =
       apart = λ items. apart-first ((number width is_lawful).Fits (length items)) (ItemsFit item [] items) ((number width is_lawful).FaultAt (length items)) (ItemsFaultAt item [] items) width (count.apart (length items)) (items-apart item decided [] items);
       one = λ items. one-first ((number width is_lawful).Fits (length items)) (ItemsFit item [] items) ((number width is_lawful).FaultAt (length items)) (ItemsFaultAt item [] items) width (count.apart (length items)) (count.one (length items)) (items-one item decided [] items);
     }
+
+-- ---- a count of which more is read than is lawful: what no rows have, and is read all the same, is marked
+abbrev pub number_read : (width : ℕ) → (is_lawful is_read : ℕ → Bool) → Form ℕ
+number_read width is_lawful is_read = record { bytes = (number width is_lawful).bytes; Fits = (number width is_lawful).Fits; FaultAt = (number width is_lawful).FaultAt; reading = (number width is_read).reading }
+
+abbrev pub listed_read : {A : Type 0} → (width : ℕ) → (is_lawful is_read : ℕ → Bool) → (List A → Form A) → Form (List A)
+listed_read width is_lawful is_read item = record { bytes = (listed width is_lawful item).bytes; Fits = (listed width is_lawful item).Fits; FaultAt = (listed width is_lawful item).FaultAt; reading = (listed width is_read item).reading }
 
 -- ---- what is read of bytes
 
@@ -225,6 +232,22 @@ module _ {A : Type 0} (item : List A → Form A) (width : A → ℕ) (Kept : A �
       let steady_made : P ((item []).bytes x ++ flat_map (item []).bytes items) (option_or (first_broken here) (first_broken there)) =
       subst (λ (t : List ℕ). P (t ++ flat_map (item []).bytes items) (option_or (first_broken here) (first_broken there))) (steady before x) made in
       subst (P (flat_map (item []).bytes (x ∷ items))) (sym (first-append here there)) steady_made
+
+  -- the same where the count is read so
+  pub judged-listed_read : (bytes : ℕ) (is_lawful is_read test : ℕ → Bool) → IsUnique (number_spelling bytes) → ((before : List A) → IsExact (item before)) → ((n : ℕ) → is_lawful n ≡ true → is_read n ≡ true)
+      → IsJudged (number_read bytes is_lawful is_read) (λ n. bytes) (λ n. Unit {0}) (λ begin n. told begin (test n) ∷ [])
+      → IsJudged (listed_read bytes is_lawful is_read item) (λ items. bytes + sum_by width items) (λ items. AllByRecursion Kept items) (λ begin items. told begin (test (length items)) ∷ told_of_each width marks (begin + bytes) items)
+  judged-listed_read bytes is_lawful is_read test unique exact more counts = record {
+    wide = λ items k. omega (arith, wide-items items k, length-append (big_bytes bytes (length items)) (flat_map (item []).bytes items), length-bytes_high_first bytes (length items));
+    again = λ items h rest. (exact-listed bytes is_read item (exact-field (number_spelling bytes) is_read unique) exact steady).again items rest ((h.0.0, more (length items) h.0.1), h.1);
+    judged = λ items k begin.
+        let here : List Fact = told begin (test (length items)) ∷ [] in
+        let there : List Fact = told_of_each width marks (begin + bytes) items in
+        subst (Judgement ((listed bytes is_lawful item).Fits items) ((listed bytes is_lawful item).FaultAt items) ((listed bytes is_lawful item).bytes items) (listed bytes is_read item).reading begin) (sym (first-append here there))
+        (both ((number bytes is_lawful).Fits (length items)) (ItemsFit item [] items) ((number bytes is_lawful).FaultAt (length items)) (ItemsFaultAt item [] items) (big_bytes bytes (length items)) (flat_map (item []).bytes items)
+        (number bytes is_read).reading (length items) (λ count. items_from item count.0 [] count.1) bytes (sym (length-bytes_high_first bytes (length items))) (counts.again (length items)) begin (begin + bytes)
+        (first_broken here) (first_broken there) refl (counts.judged (length items) tt begin) (judged-items [] items k (begin + bytes)));
+  }
 
   pub judged-listed : (bytes : ℕ) (is_lawful : ℕ → Bool) → IsUnique (number_spelling bytes) → ((before : List A) → IsExact (item before)) → IsJudged (number bytes is_lawful) (λ n. bytes) (λ n. Unit {0}) (λ begin n. told begin (has_room bytes n) ∷ [])
       → IsJudged (listed bytes is_lawful item) (λ items. bytes + sum_by width items) (λ items. AllByRecursion Kept items) (λ begin items. told begin (has_room bytes (length items)) ∷ told_of_each width marks (begin + bytes) items)

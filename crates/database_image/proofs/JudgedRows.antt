@@ -1,6 +1,7 @@
 -- The forms of the image judge rows that their types keep.
-use Rattle.std.proofs.Common.{◌≡◌, ℕ, zero, suc, ◌+◌, ◌*◌, ◌/◌, ◌%◌, ◌^◌, ◌<◌, ◌≤◌, Bool, true, false, cond, List, [], ◌∷◌, ◌++◌, length, map, Option, Some, None, Ok, refl, sym, ap, subst, ◌∙◌, arith, inl}
-use Rattle.std.specs.Prelude.{nat_lt, nat_le, ◌&&◌, ◌==◌, bytes_eq}
+use Rattle.std.proofs.lemmas.Bool.{and_parts, eqb-true}
+use Rattle.std.proofs.Common.{◌≡◌, ◌⊎◌, ⊎_elim, inr, ℕ, zero, suc, ◌+◌, ◌*◌, ◌/◌, ◌%◌, ◌^◌, ◌<◌, ◌≤◌, Bool, true, false, cond, List, [], ◌∷◌, ◌++◌, length, map, Option, Some, None, Ok, refl, sym, ap, subst, ◌∙◌, arith, inl}
+use Rattle.std.specs.Prelude.{nat_lt, nat_le, not, ◌&&◌, ◌||◌, ◌==◌, bytes_eq}
 use Rattle.std.specs.List.{AllByRecursion, list_any, sum_by}
 use Rattle.std.specs.Result.{result_ok}
 use Rattle.std.proofs.lemmas.Bool.Decides.{nat_tests}
@@ -22,27 +23,27 @@ use Rattle.racf_profiles.specs.declared.users.Connect.{Connect}
 use Rattle.racf_profiles.specs.declared.groups.Group.{Group}
 use Rattle.racf_profiles.specs.declared.options.Options.{Options}
 use Rattle.racf_profiles.specs.declared.profiles.Profile.{Profile}
+use Rattle.racf_profiles.specs.declared.profiles.ClassTraits.{ClassTraits}
 use Rattle.racf_profiles.specs.declared.profiles.Member.{Member}
 use Rattle.racf_profiles.specs.declared.profiles.Member.TheVariants as members
 use Rattle.racf_profiles.specs.declared.class_rows.ClassRow.{ClassRow}
 use Rattle.racf_profiles.specs.declared.rows.Rows.{Rows}
-use Rattle.racf_profiles.specs.ClassTable.{fixed_classes}
 use Rattle.racf_profiles.specs.Names.{connections}
 use Rattle.racf_profiles.specs.Counts.{profile_count, entry_count, entries_in}
-use Rattle.racf_profiles.specs.Limits.{most_users, most_groups, most_connections, most_connections_in_all, most_class_profiles, most_profiles, most_list_entries, most_entries_in_all, most_members, most_categories}
-use Rattle.racf_profiles.specs.LawfulProfiles.{kind_in, member_name, is_of_kind, is_logged_level}
-use Rattle.database_image.specs.Forms.{Form, Spelling, the, field, number, number_spelling, listed}
+use Rattle.racf_profiles.specs.Limits.{most_users, most_groups, most_connections, most_connections_in_all, most_class_profiles, most_profiles, most_list_entries, most_entries_in_all, most_categories}
+use Rattle.racf_profiles.specs.LawfulProfiles.{kind_in, member_name, names_of, is_of_kind, is_logged_level}
+use Rattle.database_image.specs.Forms.{Form, Spelling, IsSpelled, the, field, number, number_spelling, listed}
 use Rattle.database_image.specs.Fields.{any, below, at_most, id_text, group_text, itself, text_or_none, unless_blank, who_text, who_of, filled_spelling, rank_spelling, set_spelling, text_spelling, bit, is_set, is_new}
-use Rattle.database_image.specs.Description.{within, option_flags, options, is_superior_of, group, attribute_flags, attributes_of, connect_flags, connection, printable, user, spelled_text, pattern_in, member_in, is_pattern_at, audit_rank, audit_levels, flag_rank, entry, entry_key, port_rank, cond_key, cond_entry, cond_entry_key, member_kind, is_kind_in, resources_of, level_of_member, number_of_member, is_new_member, member_of_kind, member, profile, class_flags, are_class_flags, is_class_at, log_rank, log_options, class, image}
+use Rattle.database_image.specs.Description.{within, option_flags, options, is_superior_of, group, attribute_flags, attributes_of, connect_flags, connection, printable, user, spelled_text, pattern_in, member_in, is_pattern_at, audit_rank, audit_levels, flag_rank, entry, entry_key, port_rank, cond_key, cond_entry, cond_entry_key, member_kind, is_kind_in, resources_of, level_of_member, number_of_member, trait_flags, longest_of_member, is_new_member, member_of_kind, member, is_member_count, profile, class_flags, are_class_flags, is_class_at, is_class_count, is_old_count, is_read_count, log_rank, log_options, class, image_by, image, read_image}
 use Rattle.database_image.specs.Facts.{Fact, told, told_of_each, first_broken, user_width, member_width, profile_width, class_width, classes_place}
-use Rattle.database_image.specs.Misleading.{has_room, is_of_bytes, user_marks, member_marks, profile_marks, class_marks, marks}
+use Rattle.database_image.specs.Misleading.{has_room, tells_classes, is_of_bytes, user_marks, member_marks, profile_marks, class_marks, marks}
 use Rattle.database_image.specs.Spelled.{IsId, IsIdOrNone, IsWho, IsPatternName, IsMemberName, IsSpelledGroup, IsSpelledUser, IsSpelledMember, IsSpelledProfile, IsSpelledClass, AreSpelled}
 use Rattle.database_image.proofs.Wide.{same_width}
 use Rattle.database_image.proofs.Exact.{IsExact, IsUnique, IsSteady}
 use Rattle.database_image.proofs.Spellings.{unique-1, unique-2, unique-4, unique-filled, unique-rank, unique-set, unique-text, id-own, group-own, blank-own, who-own, printable-own, pattern-own, member-own}
 use Rattle.database_image.proofs.Described.{exact-id, exact-group, exact-connection, exact-user, exact-entry, exact-cond_entry, exact-member, exact-profile, exact-class, steady-group, steady-connection, steady-user, steady-entry, steady-cond_entry, steady-member, steady-profile, steady-class}
-use Rattle.database_image.proofs.Judged.{IsDecided, IsJudged, Judgement, Judged, judged-as, judged-followed, then_, done_, decided-field, decided-followed, decided-listed, judged-listed, no-marks}
-use Rattle.database_image.proofs.Honest.{IsHonest, MayMislead, judged-field, judged-marked, honest-number, misleading-count, honest-id, honest-group, honest-label, honest-superior, honest-who, honest-level, honest-authority, honest-port, honest-log, honest-flag, misleading-audit, misleading-set, honest-printable}
+use Rattle.database_image.proofs.Judged.{number_read, listed_read, judged-listed_read, IsDecided, IsJudged, Judgement, Judged, judged-as, judged-followed, then_, done_, decided-field, decided-followed, decided-listed, judged-listed, no-marks}
+use Rattle.database_image.proofs.Honest.{IsHonest, MayMislead, judged-field, judged-marked, judged-read, honest-number, misleading-count, honest-id, honest-group, honest-label, honest-superior, honest-who, honest-level, honest-authority, honest-port, honest-log, honest-flag, misleading-audit, misleading-set, honest-printable}
 
 -- ---- fields
 abbrev Always : {A : Type 0} → A → Type 0
@@ -492,24 +493,48 @@ category_member_ names before =
     then_ (member_name) (id_ (λ name. is_new_member before name && list_any (λ other. bytes_eq other name) names)) (λ name.
     done_ (members.Category name))
 
+abbrev two : (a b : Bool) → ℕ
+two a b = bit 1 a + bit 2 b
+
+pub two-below : (a b : Bool) → two a b < 256
+two-below a b = omega (arith, bit-digit 1 a, bit-digit 2 b, small a, small b)
+
+two-1 : (a b : Bool) → is_set (two a b) 1 ≡ a
+two-1 a b = set-of (two a b) 1 a (omega (arith, bit-digit 1 a, bit-digit 2 b, small a, small b))
+
+two-2 : (a b : Bool) → is_set (two a b) 2 ≡ b
+two-2 a b = set-of (two a b) 2 b (omega (arith, bit-digit 1 a, bit-digit 2 b, small a, small b))
+
+pub flags-traits : (t : ClassTraits) → members.Traits t ≡ members.Traits (record { operations = is_set (two t.operations t.ids) 1; ids = is_set (two t.operations t.ids) 2; longest = t.longest })
+flags-traits t = rw (two-1 t.operations t.ids, two-2 t.operations t.ids) refl
+
+abbrev traits_member_ : (before : List Member) → Judged Member
+traits_member_ before =
+    then_ (trait_flags) (byte_ (λ flags. nat_lt flags 4 && is_new_member before [])) (λ flags.
+    then_ (longest_of_member) (byte_ (λ n. nat_le 1 n && nat_le n 246)) (λ longest.
+    done_ (members.Traits (record { operations = is_set flags 1; ids = is_set flags 2; longest = longest }))))
+
 abbrev member_of_kind_ : (names : List (List ℕ)) (profile : List ℕ) (before : List Member) (kind : ℕ) → Judged Member
-member_of_kind_ names profile before zero = category_member_ names before
+member_of_kind_ names profile before zero = traits_member_ before
 member_of_kind_ names profile before (suc zero) = access_member_ profile before
 member_of_kind_ names profile before (suc (suc zero)) = level_member_ before
-member_of_kind_ names profile before (suc (suc (suc n))) = category_member_ names before
+member_of_kind_ names profile before (suc (suc (suc zero))) = category_member_ names before
+member_of_kind_ names profile before (suc (suc (suc (suc n)))) = traits_member_ before
 
 judged-of-kind : (names : List (List ℕ)) (profile : List ℕ) (before : List Member) (kind : ℕ)
     → IsJudged (member_of_kind names profile before kind) (member_of_kind_ names profile before kind).width (member_of_kind_ names profile before kind).Kept (member_of_kind_ names profile before kind).marks
-judged-of-kind names profile before zero = (category_member_ names before).is
+judged-of-kind names profile before zero = (traits_member_ before).is
 judged-of-kind names profile before (suc zero) = (access_member_ profile before).is
 judged-of-kind names profile before (suc (suc zero)) = (level_member_ before).is
-judged-of-kind names profile before (suc (suc (suc n))) = (category_member_ names before).is
+judged-of-kind names profile before (suc (suc (suc zero))) = (category_member_ names before).is
+judged-of-kind names profile before (suc (suc (suc (suc n)))) = (traits_member_ before).is
 
 decided-of-kind : (names : List (List ℕ)) (profile : List ℕ) (before : List Member) (kind : ℕ) → IsDecided (member_of_kind names profile before kind)
-decided-of-kind names profile before zero = (category_member_ names before).decided
+decided-of-kind names profile before zero = (traits_member_ before).decided
 decided-of-kind names profile before (suc zero) = (access_member_ profile before).decided
 decided-of-kind names profile before (suc (suc zero)) = (level_member_ before).decided
-decided-of-kind names profile before (suc (suc (suc n))) = (category_member_ names before).decided
+decided-of-kind names profile before (suc (suc (suc zero))) = (category_member_ names before).decided
+decided-of-kind names profile before (suc (suc (suc (suc n)))) = (traits_member_ before).decided
 
 module _ (names : List (List ℕ)) (class profile : List ℕ) (before : List Member) where
   abbrev any_kind : ℕ → Judged Member
@@ -522,16 +547,19 @@ module _ (names : List (List ℕ)) (class profile : List ℕ) (before : List Mem
   kept-member (members.Access resources level) k = (omega arith, (((member-sized resources k).few, (refl, k)), (tt, refl)))
   kept-member (members.SecurityLevel name number) k = (omega arith, (k.0, (k.1, refl)))
   kept-member (members.Category name) k = (omega arith, (k, refl))
+  kept-member (members.Traits traits) k = (omega arith, (two-below traits.operations traits.ids, (k, flags-traits traits)))
 
   width-member : (x : Member) → member_width x ≡ 1 + (any_kind (member_kind x)).width x
   width-member (members.Access resources level) = omega arith
   width-member (members.SecurityLevel name number) = refl
   width-member (members.Category name) = refl
+  width-member (members.Traits traits) = refl
 
   marks-member : (begin : ℕ) (x : Member) → member_marks (kind_in profile) begin x ≡ (any_kind (member_kind x)).marks (begin + 1) x
   marks-member begin (members.Access resources level) = told-same _ (begin + 1 + 2) (is_of_kind (kind_in profile) resources.kind) [] [] (omega arith) refl
   marks-member begin (members.SecurityLevel name number) = refl
   marks-member begin (members.Category name) = refl
+  marks-member begin (members.Traits traits) = refl
 
   pub judged-member : IsJudged (member names class profile before) member_width IsSpelledMember (member_marks (kind_in profile))
   unfolding member
@@ -565,7 +593,7 @@ profile_ names class entries before =
     then_ (λ (p : Profile). p.label) (label_) (λ label.
     then_ (λ (p : Profile). p.standard) (plain_ 2 (within most_list_entries most_entries_in_all (entries + sum_by entries_in before)) entry 9 (λ e. IsWho e.who) unique-2 (omega arith) (omega arith) exact-entry steady-entry judged-entry decided-entry) (λ standard.
     then_ (λ (p : Profile). p.conditional) (plain_ 2 (within most_list_entries most_entries_in_all (entries + sum_by entries_in before + length standard)) cond_entry 18 IsKeptCond unique-2 (omega arith) (omega arith) exact-cond_entry steady-cond_entry judged-cond_entry decided-cond_entry) (λ conditional.
-    then_ (λ (p : Profile). p.members) (listed_ 2 (at_most most_members) (member names class name.text) member_width IsSpelledMember (member_marks (kind_in name.text)) unique-2 (omega arith) (omega arith) (exact-member names class name.text) (steady-member names class name.text) (judged-member names class name.text) (decided-member names class name.text)) (λ members.
+    then_ (λ (p : Profile). p.members) (listed_ 2 (is_member_count class) (member names class name.text) member_width IsSpelledMember (member_marks (kind_in name.text)) unique-2 (omega arith) (omega arith) (exact-member names class name.text) (steady-member names class name.text) (judged-member names class name.text) (decided-member names class name.text)) (λ members.
     done_ (record { name = name; owner = owner; uacc = uacc; warning = warning; standard = standard; conditional = conditional; level = level; categories = set; label = label; audit = record { success = success; failures = failures }; global_audit = record { success = global_success; failures = global_failures }; members = members })))))))))))))))
 
 each-further : {A : Type 0} (width : A → ℕ) (item_marks : ℕ → A → List Fact) (m n : ℕ) (items : List A) → m ≡ n → told_of_each width item_marks m items ≡ told_of_each width item_marks n items ++ []
@@ -619,7 +647,7 @@ flags-class c = rw (three-1 c.active c.listed c.global, three-2 c.active c.liste
 
 abbrev class_ : (names : List (List ℕ)) (before : List ClassRow) → Judged ClassRow
 class_ names before =
-    then_ (λ (c : ClassRow). c.name) (id_ (is_class_at (length before))) (λ name.
+    then_ (λ (c : ClassRow). c.name) (id_ (is_class_at (names_of before))) (λ name.
     then_ (λ (c : ClassRow). class_flags c) (byte_ (are_class_flags name)) (λ flags.
     then_ (λ (c : ClassRow). c.log) (ranked_ log_rank log_options honest-log) (λ log.
     then_ (λ (c : ClassRow). c.profiles) (listed_ 4 (within most_class_profiles most_profiles (profile_count before)) (profile names name (entry_count before)) profile_width IsSpelledProfile (profile_marks (kind_in name)) unique-4 (omega arith) (omega arith)
@@ -644,14 +672,55 @@ decided-class names before = (class_ names before).decided
 abbrev whole_options : Judged Options
 whole_options = record { form = options; width = λ o. 3 + 8 * length o.categories; Kept = λ o. AllByRecursion IsId o.categories; marks = λ begin o. told (begin + 1) (has_room 2 (length o.categories)) ∷ []; is = judged-options; decided = decided-options }
 
+or-last : (old new : Bool) → new ≡ true → (old || new) ≡ true
+or-last true new h = refl
+or-last false new h = h
+
+or-none : (old new : Bool) → old ≡ false → (old || new) ≡ new
+or-none true new h = absurd cc
+or-none false new h = refl
+
+not-true : (b : Bool) → not b ≡ true → b ≡ false
+not-true true h = absurd cc
+not-true false h = refl
+
+either-false : (a b : Bool) → (a && not b) ≡ false → (a ≡ false) ⊎ (b ≡ true)
+either-false false b h = inl refl
+either-false true true h = inr refl
+either-false true false h = absurd cc
+
+old-count : (n : ℕ) → is_old_count n ≡ true → is_class_count n ≡ true → ⊥
+old-count n h k = let at : n ≡ 14 = eqb-true n 14 h in let no : false ≡ true = ap is_class_count (sym at) ∙ k in absurd cc
+
+unfit-count : (n : ℕ) → tells_classes n ≡ false → IsSpelled (number_spelling 2) n → is_class_count n ≡ true → ⊥
+unfit-count n h s k = ⊎_elim (λ full. (misleading-count 2 (omega arith) (omega arith)).unspelled n tt full s) (λ old. old-count n old k) (either-false (has_room 2 n) (is_old_count n) h)
+
+judged-count : IsJudged (number_read 2 is_class_count is_read_count) (λ n. 2) (λ n. Unit {0}) (λ begin n. told begin (tells_classes n) ∷ [])
+judged-count =
+    judged-read 2 is_class_count is_read_count tells_classes unique-2 (omega arith) (omega arith)
+    (λ n h. or-last (is_old_count n) (is_class_count n) h)
+    (λ n h. or-none (is_old_count n) (is_class_count n) (not-true (is_old_count n) (and_parts (has_room 2 n) (not (is_old_count n)) h).1))
+    (λ n h. (misleading-count 2 (omega arith) (omega arith)).honest n tt (and_parts (has_room 2 n) (not (is_old_count n)) h).0)
+    unfit-count
+
+-- the classes, of which one fewer are read
+abbrev classes_ : (names : List (List ℕ)) → Judged (List ClassRow)
+classes_ names = record {
+  form = listed_read 2 is_class_count is_read_count (class names);
+  width = λ items. 2 + sum_by class_width items;
+  Kept = λ items. AllByRecursion IsSpelledClass items;
+  marks = λ begin items. told begin (tells_classes (length items)) ∷ told_of_each class_width class_marks (begin + 2) items;
+  is = judged-listed_read (class names) class_width IsSpelledClass class_marks (steady-class names) (judged-class names) 2 is_class_count is_read_count tells_classes unique-2 (exact-class names) (λ n h. or-last (is_old_count n) (is_class_count n) h) judged-count;
+  decided = record { apart = (decided-listed 2 is_class_count (class names) (decided-class names)).apart; one = (decided-listed 2 is_class_count (class names) (decided-class names)).one };
+}
+
 abbrev image_ : Judged Rows
 image_ =
     then_ (λ (r : Rows). r.options) (whole_options) (λ options.
     then_ (λ (r : Rows). r.groups) (plain_ 4 (at_most most_groups) group 24 IsSpelledGroup unique-4 (omega arith) (omega arith) exact-group steady-group judged-group decided-group) (λ groups.
     then_ (λ (r : Rows). r.users) (listed_ 4 (at_most most_users) (user (length options.categories)) user_width IsSpelledUser user_marks unique-4 (omega arith) (omega arith)
     (exact-user (length options.categories)) (steady-user (length options.categories)) (judged-user (length options.categories)) (decided-user (length options.categories))) (λ users.
-    then_ (λ (r : Rows). r.classes) (listed_ 2 (λ count. count == length fixed_classes) (class options.categories) class_width IsSpelledClass class_marks unique-2 (omega arith) (omega arith)
-    (exact-class options.categories) (steady-class options.categories) (judged-class options.categories) (decided-class options.categories)) (λ classes.
+    then_ (λ (r : Rows). r.classes) (classes_ options.categories) (λ classes.
     done_ (record { users = users; groups = groups; classes = classes; options = options })))))
 
 module _ (rows : Rows) where
@@ -664,7 +733,7 @@ module _ (rows : Rows) where
   abbrev classes_at : ℕ
   classes_at = users_at + (4 + sum_by user_width rows.users)
 
-  behind-users : (m n : ℕ) (us us' cs cs' : List Fact) → m ≡ n → us ≡ us' → cs ≡ cs' → us ++ (told m (has_room 2 (length rows.classes)) ∷ cs) ≡ us' ++ (told n (has_room 2 (length rows.classes)) ∷ cs')
+  behind-users : (m n : ℕ) (us us' cs cs' : List Fact) → m ≡ n → us ≡ us' → cs ≡ cs' → us ++ (told m (tells_classes (length rows.classes)) ∷ cs) ≡ us' ++ (told n (tells_classes (length rows.classes)) ∷ cs')
   behind-users m n us us' cs cs' e f g = rw (e, f, g) refl
 
   marks-same : marks rows ≡ (image_).marks 0 rows
@@ -681,13 +750,13 @@ module _ (rows : Rows) where
     kept-rows = (spelled.categories, (spelled.groups, (spelled.users, (spelled.classes, refl))))
 
     pub wide-rows : classes_place rows + sum_by class_width rows.classes ≡ length (image.bytes rows)
-    unfolding image
+    unfolding image_by
     wide-rows = let w : (image_).width rows ≡ length (image.bytes rows) = (image_).is.wide rows kept-rows in omega (arith, w)
 
-    pub judged-rows : Judgement (image.Fits rows) (image.FaultAt rows) (image.bytes rows) image.reading 0 (first_broken (marks rows))
-    unfolding image
-    judged-rows = subst (λ (m : List Fact). Judgement (image.Fits rows) (image.FaultAt rows) (image.bytes rows) image.reading 0 (first_broken m)) (sym marks-same) ((image_).is.judged rows kept-rows 0)
+    pub judged-rows : Judgement (image.Fits rows) (image.FaultAt rows) (image.bytes rows) read_image.reading 0 (first_broken (marks rows))
+    unfolding image_by
+    judged-rows = subst (λ (m : List Fact). Judgement (image.Fits rows) (image.FaultAt rows) (image.bytes rows) read_image.reading 0 (first_broken m)) (sym marks-same) ((image_).is.judged rows kept-rows 0)
 
 pub decided-image : IsDecided image
-unfolding image
-decided-image = (image_).decided
+unfolding image_by
+decided-image = record { apart = (image_).decided.apart; one = (image_).decided.one }

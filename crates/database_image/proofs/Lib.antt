@@ -6,6 +6,7 @@ mod Sets
 mod Exact
 mod Wide
 mod Climbs
+mod Completed
 mod Maps
 mod Told
 mod Fitting
@@ -16,6 +17,7 @@ mod Images
 mod Appended
 mod StoredGroups
 mod StoredUsers
+mod StoredNames
 mod StoredClasses
 mod Stored
 mod Judged

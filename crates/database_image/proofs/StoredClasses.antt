@@ -1,11 +1,10 @@
 -- The classes of rows that an image may hold are lawful.
-use Rattle.std.proofs.Common.{◌≡◌, ℕ, zero, suc, ◌+◌, ◌<◌, ◌≤◌, Bool, true, false, List, [], ◌∷◌, ◌++◌, length, map, Option, Some, None, Ok, is_some, refl, sym, ap, subst, ◌∙◌, true≢false, arith, drop, length-append}
+use Rattle.std.proofs.Common.{◌≡◌, ℕ, ◌+◌, ◌<◌, ◌≤◌, Bool, true, false, List, [], ◌∷◌, ◌++◌, length, map, Option, Some, None, Ok, is_some, refl, sym, ap, subst, ◌∙◌, true≢false, arith}
 use Rattle.std.specs.Prelude.{not, ◌&&◌, ◌||◌, ◌==◌, nat_le, nat_lt, codes, bytes_eq, find, IsTrue, if◌then◌else◌}
-use Rattle.std.specs.List.{AllByRecursion, IsDistinct, list_any, list_all, sum_by, slice_get}
-use Rattle.std.specs.Option.{option_map, option_map_or, option_eq}
+use Rattle.std.specs.List.{AllByRecursion, IsDistinct, list_any, list_all, sum_by}
+use Rattle.std.specs.Option.{option_map, option_map_or, option_or, option_and_then}
 use Rattle.std.specs.Result.{result_ok}
 use Rattle.std.proofs.lemmas.Bool.{and_parts, and_from, leb-true, eqb-true, false_from_ne_true}
-use Rattle.std.proofs.lemmas.List.{drop_all}
 use Rattle.std.proofs.lemmas.Map.Keys.{IsDistinct-head, IsDistinct-tail, IsDistinct-cons}
 use Rattle.access_levels.specs.Category.{is_member}
 use Rattle.access_levels.specs.Entries.{is_same_who, is_same_port}
@@ -25,6 +24,7 @@ use Rattle.generic_names.specs.Faults.{unless, pattern_of}
 use Rattle.generic_names.specs.Covers.{is_generic}
 use Rattle.generic_names.specs.Before.{before as is_before}
 use Rattle.racf_profiles.specs.declared.options.Options.{Options}
+use Rattle.racf_profiles.specs.declared.profiles.ClassTraits.{ClassTraits}
 use Rattle.racf_profiles.specs.declared.profiles.Profile.{Profile}
 use Rattle.racf_profiles.specs.declared.profiles.Member.{Member}
 use Rattle.racf_profiles.specs.declared.profiles.Member.TheVariants as members
@@ -36,23 +36,25 @@ use Rattle.racf_profiles.specs.declared.fixed_classes.NameForm.TheVariants as na
 use Rattle.racf_profiles.specs.declared.fixed_classes.ClassFacts.{ClassFacts}
 use Rattle.racf_profiles.specs.declared.rows.Rows.{Rows}
 use Rattle.racf_profiles.specs.ClassTable.{class_name, fixed_class, fixed_classes, facts_of_class, facts_of}
+use Rattle.racf_profiles.specs.DynamicClasses.{cdt, general, traits_of, traits_in, facts_of_traits, facts_in, is_fixed, is_short}
 use Rattle.racf_profiles.specs.Edits.{is_in_order}
-use Rattle.racf_profiles.specs.Limits.{most_class_profiles, most_profiles, most_list_entries, most_entries_in_all}
-use Rattle.racf_profiles.specs.Lookup.{class_of}
+use Rattle.racf_profiles.specs.Limits.{most_members, most_class_profiles, most_profiles, most_list_entries, most_entries_in_all}
+use Rattle.racf_profiles.specs.Lookup.{is_class, is_profile, class_of, profile_of}
 use Rattle.racf_profiles.specs.Counts.{profile_count, entry_count, entries_in}
-use Rattle.racf_profiles.specs.LawfulProfiles.{kind_in, is_profile_name, is_same_entry, is_logged_level, is_audit, is_of_kind, is_member_of, member_name, AreProfiles, AreClasses, AreEntries, AreMembers, IsProfile, IsClass}
+use Rattle.racf_profiles.specs.LawfulProfiles.{kind_in, names_of, is_profile_name, is_same_entry, is_logged_level, is_audit, is_of_kind, is_member_of, member_name, most_classes, profiles_of, AreProfiles, AreClasses, AreDynamic, AreEntries, AreMembers, IsProfile, IsClass}
 use Rattle.racf_profiles.specs.LawfulProfiles as lawful
 use Rattle.racf_profiles.proofs.Named.{same, itself, turned}
 use Rattle.racf_profiles.proofs.States.{find-passes}
 use Rattle.byteorder.specs.Endian.{big_number}
 use Rattle.database_image.specs.Forms.{Form, IsSpelled, ItemsFit}
 use Rattle.database_image.specs.Fields.{is_new, is_set, filled, who_text, rank_spelling}
-use Rattle.database_image.specs.Description.{is_named_by, is_name_in, comes_behind, is_pattern_at, pattern_in, member_in, audit_rank, audit_levels, entry, entry_key, port_rank, cond_entry, cond_entry_key, member_kind, is_kind_in, member, member_of_kind, profile, class_flags, is_class_at, class, image}
-use Rattle.database_image.specs.Facts.{told_of_each, first_broken, profile_width, profile_facts, class_facts}
+use Rattle.database_image.specs.Description.{is_named_by, is_name_in, comes_behind, is_pattern_at, pattern_in, member_in, audit_rank, audit_levels, entry, entry_key, port_rank, cond_entry, cond_entry_key, member_kind, is_kind_in, trait_flags, member, is_member_count, member_of_kind, profile, class_flags, is_class_at, class, image_by}
+use Rattle.database_image.specs.Facts.{Fact, told, told_of_each, first_broken, profile_width, profile_facts, definition_facts, defines_class, is_name_by, name_facts, dynamic_facts, class_facts}
 use Rattle.database_image.specs.Image.{IsStored}
 use Rattle.database_image.proofs.Fitting.{distinct-items}
 use Rattle.database_image.proofs.StoredGroups.{one-true, each-holds, all-fit, holding}
 use Rattle.database_image.proofs.StoredUsers.{sums-within, few-set}
+use Rattle.database_image.proofs.StoredNames.{are-names}
 
 -- ---- one of some values
 found-in : {A : Type 0} (P : A → Type 0) (test : A → Bool) (values : List A) (x : A) → AllByRecursion P values → find test values ≡ Some x → P x
@@ -104,6 +106,7 @@ global-form fixed.Dasdvol h = absurd cc
 global-form fixed.Secdata h = absurd cc
 global-form fixed.Seclabel h = absurd cc
 global-form fixed.Global h = refl
+global-form fixed.Cdt h = absurd cc
 
 is-global : (class : List ℕ) (facts : ClassFacts) → facts_of class ≡ Some facts → facts.names ≡ names.Class → bytes_eq class (codes "GLOBAL") ≡ true
 is-global class facts h form = by (fixed_class class) refl h
@@ -123,18 +126,48 @@ same-form rows names.LevelOrCategory text g h = h
 same-form rows names.Identifier text g h = h
 same-form rows names.Class text g h = g refl
 
-name-lawful : (rows : Rows) (class : List ℕ) (before : List Profile) (name : Spelled) → (bytes_eq class (codes "GLOBAL") ≡ true → is_some (class_of name.text rows) ≡ true) → is_pattern_at class before name ≡ true
-    → (option_map_or (is_profile_name rows name) (facts_of class) false ≡ true) × (comes_behind before name ≡ true)
-unfolding is_pattern_at
-name-lawful rows class before name g h = by (facts_of class) refl h
+-- the fixed classes set no length of their own
+unlimited : (class : FixedClass) → (facts_of_class class).longest ≡ None
+unlimited fixed.Dataset = refl
+unlimited fixed.Facility = refl
+unlimited fixed.Terminal = refl
+unlimited fixed.Console = refl
+unlimited fixed.Jesinput = refl
+unlimited fixed.Appcport = refl
+unlimited fixed.Appl = refl
+unlimited fixed.Opercmds = refl
+unlimited fixed.Surrogat = refl
+unlimited fixed.Tapevol = refl
+unlimited fixed.Dasdvol = refl
+unlimited fixed.Secdata = refl
+unlimited fixed.Seclabel = refl
+unlimited fixed.Global = refl
+unlimited fixed.Cdt = refl
+
+any-length : (class : List ℕ) (facts : ClassFacts) (text : List ℕ) → facts_of class ≡ Some facts → is_short facts text ≡ true
+any-length class facts text h = by (fixed_class class) h
   where
-    by : (o : Option ClassFacts) → facts_of class ≡ o → option_map_or (λ facts. is_name_in facts name && comes_behind before name) o false ≡ true
-        → (option_map_or (is_profile_name rows name) o false ≡ true) × (comes_behind before name ≡ true)
-    by None e k = absurd cc
-    by (Some facts) e k =
-        let both = and_parts (is_name_in facts name) (comes_behind before name) k in
-        let parts = and_parts (is_named_by facts.names name.text) (not (is_generic name) || facts.generic) both.0 in
-        (and_from _ _ (same-form rows facts.names name.text (λ form. g (is-global class facts e form)) parts.0) parts.1, both.1)
+    by : (o : Option FixedClass) → option_map facts_of_class o ≡ Some facts → is_short facts text ≡ true
+    by None k = absurd cc
+    by (Some c) k =
+        let one : facts_of_class c ≡ facts = (let a = k in cc) in
+        let none : facts.longest ≡ None = ap (λ (f : ClassFacts). f.longest) (sym one) ∙ unlimited c in
+        ap (λ l. option_map_or (λ most. nat_le (length text) most) l true) none
+
+-- Of a name in a fixed class its field says whether it is lawful, but for that of a class; of one in a dynamic class the
+-- fact does.
+name-lawful : (rows : Rows) (class_name : List ℕ) (before : List Profile) (name : Spelled) → (bytes_eq class_name (codes "GLOBAL") ≡ true → is_some (class_of name.text rows) ≡ true)
+    → (facts_of class_name ≡ None → is_name_by rows (facts_in class_name rows) name ≡ true) → is_pattern_at class_name before name ≡ true → is_name_by rows (facts_in class_name rows) name ≡ true
+unfolding is_pattern_at
+name-lawful rows class_name before name g d h =
+    by (facts_of class_name) refl d (and_parts (option_map_or (λ facts. is_name_in facts name) (facts_of class_name) true) (comes_behind before name) h).0
+  where
+    by : (o : Option ClassFacts) → facts_of class_name ≡ o → (o ≡ None → is_name_by rows (option_or o (option_map facts_of_traits (traits_in class_name rows))) name ≡ true) → option_map_or (λ facts. is_name_in facts name) o true ≡ true
+        → is_name_by rows (option_or o (option_map facts_of_traits (traits_in class_name rows))) name ≡ true
+    by None e d k = d refl
+    by (Some facts) e d k =
+        let parts = and_parts (is_named_by facts.names name.text) (not (is_generic name) || facts.generic) k in
+        and_from _ _ (same-form rows facts.names name.text (λ form. g (is-global class_name facts e form)) parts.0) (and_from _ _ (any-length class_name facts name.text e) parts.1)
 
 -- ---- entries
 apart-who : (a b : Who) → bytes_eq (who_text a) (who_text b) ≡ false → is_same_who a b ≡ false
@@ -212,6 +245,10 @@ unfolding cond_entry
 new-cond before e f = f.1.1.0.1
 
 -- ---- members
+or-threes : (b : Bool) → (b || false || false || false) ≡ true → b ≡ true
+or-threes true h = refl
+or-threes false h = absurd cc
+
 or-falses : (b : Bool) → (b || false || false) ≡ true → b ≡ true
 or-falses true h = refl
 or-falses false h = absurd cc
@@ -225,6 +262,7 @@ module _ (options : Options) (class profile : List ℕ) where
   new-kind before (members.Access resources level) f = f.0.1.1
   new-kind before (members.SecurityLevel name number) f = f.0.1
   new-kind before (members.Category name) f = (and_parts (is_new (map member_name before) name) (list_any (λ other. bytes_eq other name) options.categories) f.0.1).0
+  new-kind before (members.Traits traits) f = (and_parts (nat_lt (trait_flags (members.Traits traits)) 4) (is_new (map member_name before) []) f.0.1).1
 
   new-member : (before : List Member) (m : Member) → (member options.categories class profile before).Fits m → IsTrue (is_new (map member_name before) (member_name m))
   unfolding member
@@ -232,13 +270,16 @@ module _ (options : Options) (class profile : List ℕ) where
 
   kind-fitting : (before : List Member) (m : Member) → is_kind_in class profile (member_kind m) ≡ true → (member_of_kind options.categories profile before (member_kind m)).Fits m → is_member_of options class profile m ≡ true
   kind-fitting before (members.Access resources level) k f =
-      and_from _ _ (or-falses (bytes_eq class (codes "GLOBAL")) k) (of-one-kind (kind_in profile) resources.kind (member-kind-back profile resources f.0.1.0.back))
+      and_from _ _ (or-threes (bytes_eq class (codes "GLOBAL")) k) (of-one-kind (kind_in profile) resources.kind (member-kind-back profile resources f.0.1.0.back))
   kind-fitting before (members.SecurityLevel name number) k f =
-      let both = or-false (bytes_eq class (codes "SECDATA") && bytes_eq profile (codes "SECLEVEL")) k in
+      let both = or-falses (bytes_eq class (codes "SECDATA") && bytes_eq profile (codes "SECLEVEL")) k in
       let range = and_parts (nat_le 1 number) (nat_le number 254) f.1.0.1 in
       and_from _ _ (and_from _ _ both range.0) range.1
   kind-fitting before (members.Category name) k f =
-      and_from _ _ k (and_parts (is_new (map member_name before) name) (list_any (λ other. bytes_eq other name) options.categories) f.0.1).1
+      and_from _ _ (or-false (bytes_eq class (codes "SECDATA") && bytes_eq profile (codes "CATEGORY")) k) (and_parts (is_new (map member_name before) name) (list_any (λ other. bytes_eq other name) options.categories) f.0.1).1
+  kind-fitting before (members.Traits traits) k f =
+      let range = and_parts (nat_le 1 traits.longest) (nat_le traits.longest 246) f.1.0.1 in
+      and_from _ _ (and_from _ _ k range.0) range.1
 
   fitting-member : (before : List Member) (m : Member) → (member options.categories class profile before).Fits m → is_member_of options class profile m ≡ true
   unfolding member
@@ -247,6 +288,38 @@ module _ (options : Options) (class profile : List ℕ) where
 all-true : {A : Type 0} (p : A → Bool) (items : List A) → AllByRecursion (λ x. p x ≡ true) items → list_all p items ≡ true
 all-true p [] h = refl
 all-true p (x ∷ items) h = and_from _ _ h.0 (all-true p items h.1)
+
+-- ---- how many members a profile has, and that of CDT
+few-members : (class : List ℕ) (count : ℕ) → is_member_count class count ≡ true → count ≤ most_members
+few-members class count h = by (bytes_eq class cdt) h
+  where
+    by : (b : Bool) → (if b then count == 1 else nat_le count most_members) ≡ true → count ≤ most_members
+    by true k = let one : count ≡ 1 = eqb-true count 1 k in omega (arith, one)
+    by false k = leb-true count most_members k
+
+-- In CDT no member is of another kind.
+not-cdt : (class other : List ℕ) → bytes_eq class cdt ≡ true → bytes_eq cdt other ≡ false → bytes_eq class other ≡ true → ⊥
+not-cdt class other h apart k = true≢false (sym k ∙ ap (λ name. bytes_eq name other) (same class cdt h) ∙ apart)
+
+module _ (options : Options) (class profile : List ℕ) (in_cdt : bytes_eq class cdt ≡ true) where
+  one-kind : (m : Member) → is_kind_in class profile (member_kind m) ≡ true → is_some (traits_of (m ∷ [])) ≡ true
+  one-kind (members.Access resources level) k = absurd (not-cdt class (codes "GLOBAL") in_cdt refl (or-threes (bytes_eq class (codes "GLOBAL")) k))
+  one-kind (members.SecurityLevel name number) k = absurd (not-cdt class (codes "SECDATA") in_cdt refl (and_parts (bytes_eq class (codes "SECDATA")) (bytes_eq profile (codes "SECLEVEL")) (or-falses (bytes_eq class (codes "SECDATA") && bytes_eq profile (codes "SECLEVEL")) k)).0)
+  one-kind (members.Category name) k = absurd (not-cdt class (codes "SECDATA") in_cdt refl (and_parts (bytes_eq class (codes "SECDATA")) (bytes_eq profile (codes "CATEGORY")) (or-false (bytes_eq class (codes "SECDATA") && bytes_eq profile (codes "CATEGORY")) k)).0)
+  one-kind (members.Traits traits) k = refl
+
+  one-member : (ms : List Member) → length ms ≡ 1 → ItemsFit (member options.categories class profile) [] ms → is_some (traits_of ms) ≡ true
+  unfolding member
+  one-member [] e f = absurd cc
+  one-member (m ∷ []) e f = one-kind m f.0.0.1
+  one-member (m ∷ n ∷ ms) e f = absurd cc
+
+traits-there : (options : Options) (class profile : List ℕ) (ms : List Member) → is_member_count class (length ms) ≡ true → ItemsFit (member options.categories class profile) [] ms → IsTrue (not (bytes_eq class cdt) || is_some (traits_of ms))
+traits-there options class profile ms h f = by (bytes_eq class cdt) refl h
+  where
+    by : (b : Bool) → bytes_eq class cdt ≡ b → (if b then length ms == 1 else nat_le (length ms) most_members) ≡ true → IsTrue (not b || is_some (traits_of ms))
+    by true e k = one-member options class profile e ms (eqb-true (length ms) 1 k) f
+    by false e k = refl
 
 -- ---- one profile, from its fields
 record ProfileFits (options : Options) (class : List ℕ) (entries : ℕ) (before : List Profile) (p : Profile) : Type 0 where
@@ -287,7 +360,8 @@ profile-fits options class entries before p f =
       members = record {
         distinct = distinct-items member_name (member options.categories class p.name.text) (new-member options class p.name.text) [] p.members members.1;
         fitting = all-true (is_member_of options class p.name.text) p.members (all-fit (λ m. is_member_of options class p.name.text m ≡ true) (member options.categories class p.name.text) (fitting-member options class p.name.text) [] p.members members.1);
-        few = leb-true _ _ members.0.1;
+        few = few-members class (length p.members) members.0.1;
+        traits = traits-there options class p.name.text p.members members.0.1 members.1;
       };
     }
 
@@ -296,18 +370,19 @@ module _ (rows : Rows) (name : List ℕ) (entries : ℕ) where
   abbrev forms : List Profile → Form Profile
   forms = profile rows.options.categories name entries
 
-  each-profile : (before items : List Profile) → ItemsFit forms before items → (bytes_eq name (codes "GLOBAL") ≡ true → AllByRecursion (λ (p : Profile). is_some (class_of p.name.text rows) ≡ true) items) → AllByRecursion (IsProfile rows name) items
-  each-profile before [] f g = tt
-  each-profile before (p ∷ items) f g =
+  each-profile : (before items : List Profile) → ItemsFit forms before items → (bytes_eq name (codes "GLOBAL") ≡ true → AllByRecursion (λ (p : Profile). is_some (class_of p.name.text rows) ≡ true) items)
+      → (facts_of name ≡ None → AllByRecursion (λ (p : Profile). is_name_by rows (facts_in name rows) p.name ≡ true) items) → AllByRecursion (IsProfile rows name) items
+  each-profile before [] f g d = tt
+  each-profile before (p ∷ items) f g d =
       let fits = profile-fits rows.options name entries before p f.0 in (
         record {
-          name = (name-lawful rows name before p.name (λ t. (g t).0) fits.placed).0;
+          name = name-lawful rows name before p.name (λ t. (g t).0) (λ n. (d n).0) fits.placed;
           entries = fits.lists;
           audit = fits.audit;
           members = fits.members;
           categories = fits.categories;
         },
-        each-profile (before ++ p ∷ []) items f.1 (λ t. (g t).1),
+        each-profile (before ++ p ∷ []) items f.1 (λ t. (g t).1) (λ n. (d n).1),
       )
 
   behind-last : (before : List Profile) (p : Profile) (q : Spelled) → comes_behind (before ++ p ∷ []) q ≡ is_before p.name q
@@ -317,11 +392,7 @@ module _ (rows : Rows) (name : List ℕ) (entries : ℕ) where
 
   placed-behind : (before : List Profile) (q : Spelled) → is_pattern_at name before q ≡ true → comes_behind before q ≡ true
   unfolding is_pattern_at
-  placed-behind before q h = by (facts_of name) h
-    where
-      by : (o : Option ClassFacts) → option_map_or (λ facts. is_name_in facts q && comes_behind before q) o false ≡ true → comes_behind before q ≡ true
-      by None k = absurd cc
-      by (Some facts) k = (and_parts (is_name_in facts q) (comes_behind before q) k).1
+  placed-behind before q h = (and_parts (option_map_or (λ facts. is_name_in facts q) (facts_of name) true) (comes_behind before q) h).1
 
   in-order : (before items : List Profile) → ItemsFit forms before items → is_in_order items ≡ true
   in-order before [] f = refl
@@ -345,9 +416,9 @@ module _ (rows : Rows) (name : List ℕ) (entries : ℕ) where
 
 -- ---- one class
 record ClassFits (rows : Rows) (before : List ClassRow) (c : ClassRow) : Type 0 where
-  placed : is_class_at (length before) c.name ≡ true
+  placed : is_class_at (names_of before) c.name ≡ true
   active : IsTrue (not (bytes_eq c.name (codes "DATASET")) || c.active)
-  listed : IsTrue (not c.listed || option_map_or (λ (facts : ClassFacts). facts.raclist) (facts_of c.name) false)
+  listed : IsTrue (not c.listed || option_map_or (λ (facts : ClassFacts). facts.raclist) (facts_of c.name) true)
   profiles : ItemsFit (profile rows.options.categories c.name (entry_count before)) [] c.profiles
   few : length c.profiles ≤ most_class_profiles
   in_all : profile_count before + length c.profiles ≤ most_profiles
@@ -365,7 +436,7 @@ class-fits : (rows : Rows) (before : List ClassRow) (c : ClassRow) → (class ro
 unfolding class
 class-fits rows before c f =
     let active = is_set (class_flags c) 1 || not (bytes_eq c.name (codes "DATASET")) in
-    let listed = not (is_set (class_flags c) 2) || option_map_or (λ (facts : ClassFacts). facts.raclist) (facts_of c.name) false in
+    let listed = not (is_set (class_flags c) 2) || option_map_or (λ (facts : ClassFacts). facts.raclist) (facts_of c.name) true in
     let flags = and_parts (nat_lt (class_flags c) 8 && active) listed f.1.0.1 in
     let few_flags = and_parts (nat_lt (class_flags c) 8) active flags.0 in
     let profiles = f.1.1.1.0 in
@@ -373,66 +444,162 @@ class-fits rows before c f =
     record {
       placed = f.0.1;
       active = or-turned (is_set (class_flags c) 1) (not (bytes_eq c.name (codes "DATASET"))) c.active few_flags.1 (ap (λ (d : ClassRow). d.active) f.1.1.1.1);
-      listed = listed-as (is_set (class_flags c) 2) (option_map_or (λ (facts : ClassFacts). facts.raclist) (facts_of c.name) false) c.listed flags.1 (ap (λ (d : ClassRow). d.listed) f.1.1.1.1);
+      listed = listed-as (is_set (class_flags c) 2) (option_map_or (λ (facts : ClassFacts). facts.raclist) (facts_of c.name) true) c.listed flags.1 (ap (λ (d : ClassRow). d.listed) f.1.1.1.1);
       profiles = profiles.1;
       few = leb-true _ _ few.0;
       in_all = leb-true _ _ few.1;
     }
 
-all-names : (rows : Rows) (profiles : List Profile) → AllByRecursion (λ p. (n : ℕ) × (first_broken (profile_facts rows n p) ≡ None)) profiles → AllByRecursion (λ (p : Profile). is_some (class_of p.name.text rows) ≡ true) profiles
-all-names rows [] h = tt
-all-names rows (p ∷ profiles) h = ((one-true (h.0.0 + 2) (is_some (class_of p.name.text rows)) [] h.0.1).0, all-names rows profiles h.1)
+-- ---- what the facts tell of one class
+each-true : {A : Type 0} (place : ℕ → A → ℕ) (holds : A → Bool) (items : List A) → AllByRecursion (λ x. (n : ℕ) × (first_broken (told (place n x) (holds x) ∷ []) ≡ None)) items → AllByRecursion (λ x. holds x ≡ true) items
+each-true place holds [] h = tt
+each-true place holds (x ∷ items) h = ((one-true (place h.0.0 x) (holds x) [] h.0.1).0, each-true place holds items h.1)
 
-global-names : (rows : Rows) (c : ClassRow) (place : ℕ) → first_broken (class_facts rows place c) ≡ None → bytes_eq c.name (codes "GLOBAL") ≡ true → AllByRecursion (λ (p : Profile). is_some (class_of p.name.text rows) ≡ true) c.profiles
-global-names rows c place h global =
-    let told : first_broken (told_of_each profile_width (profile_facts rows) (place + 14) c.profiles) ≡ None =
-    sym (ap (λ b. first_broken (if b then told_of_each profile_width (profile_facts rows) (place + 14) c.profiles else [])) global) ∙ h in
-    all-names rows c.profiles (each-holds profile_width (profile_facts rows) (place + 14) c.profiles told)
+-- one of two lists of facts, by a test
+told-by : (b c : Bool) (xs ys : List Fact) → first_broken (if b then xs else ys) ≡ None → b ≡ c → first_broken (if c then xs else ys) ≡ None
+told-by b c xs ys h e = subst (λ t. first_broken (if t then xs else ys) ≡ None) e h
 
+-- a class that isn't fixed has no name of a fixed one
+not-named : (name other : List ℕ) → is_fixed other ≡ true → is_fixed name ≡ false → bytes_eq name other ≡ false
+not-named name other fixed not_fixed = false_from_ne_true (bytes_eq name other) (λ t. true≢false (sym fixed ∙ ap is_fixed (sym (same name other t)) ∙ not_fixed))
+
+not-fixed : (name : List ℕ) → facts_of name ≡ None → is_fixed name ≡ false
+not-fixed name h = by (fixed_class name) h
+  where
+    by : (o : Option FixedClass) → option_map facts_of_class o ≡ None → is_some o ≡ false
+    by None k = refl
+    by (Some c) k = absurd cc
+
+module _ (rows : Rows) (c : ClassRow) (place : ℕ) (told_all : first_broken (class_facts rows place c) ≡ None) where
+  abbrev of_global : List Fact
+  of_global = told_of_each profile_width (profile_facts rows) (place + 14) c.profiles
+
+  abbrev of_cdt : List Fact
+  of_cdt = told_of_each profile_width (definition_facts rows) (place + 14) c.profiles
+
+  abbrev of_others : List Fact
+  of_others = if is_fixed c.name then [] else dynamic_facts rows place c
+
+  global-names : bytes_eq c.name (codes "GLOBAL") ≡ true → AllByRecursion (λ (p : Profile). is_some (class_of p.name.text rows) ≡ true) c.profiles
+  global-names global =
+      let all = told-by (bytes_eq c.name (codes "GLOBAL")) true of_global (if bytes_eq c.name cdt then of_cdt else of_others) told_all global in
+      each-true (λ n p. n + 2) (λ (p : Profile). is_some (class_of p.name.text rows)) c.profiles (each-holds profile_width (profile_facts rows) (place + 14) c.profiles all)
+
+  defined-classes : bytes_eq c.name cdt ≡ true → AllByRecursion (λ (p : Profile). defines_class rows p.name.text ≡ true) c.profiles
+  defined-classes in_cdt =
+      let not_global : bytes_eq c.name (codes "GLOBAL") ≡ false = ap (λ name. bytes_eq name (codes "GLOBAL")) (same c.name cdt in_cdt) in
+      let behind = told-by (bytes_eq c.name (codes "GLOBAL")) false of_global (if bytes_eq c.name cdt then of_cdt else of_others) told_all not_global in
+      let all = told-by (bytes_eq c.name cdt) true of_cdt of_others behind in_cdt in
+      each-true (λ n p. n + 2) (λ (p : Profile). defines_class rows p.name.text) c.profiles (each-holds profile_width (definition_facts rows) (place + 14) c.profiles all)
+
+  of-dynamic : is_fixed c.name ≡ false → first_broken (dynamic_facts rows place c) ≡ None
+  of-dynamic not_fixed =
+      let behind = told-by (bytes_eq c.name (codes "GLOBAL")) false of_global (if bytes_eq c.name cdt then of_cdt else of_others) told_all (not-named c.name (codes "GLOBAL") refl not_fixed) in
+      let last = told-by (bytes_eq c.name cdt) false of_cdt of_others behind (not-named c.name cdt refl not_fixed) in
+      told-by (is_fixed c.name) false [] (dynamic_facts rows place c) last not_fixed
+
+  abbrev of_names : List Fact
+  of_names = told_of_each profile_width (name_facts rows (facts_in c.name rows)) (place + 14) c.profiles
+
+  has-profile : is_fixed c.name ≡ false → is_some (profile_of cdt (general c.name) rows) ≡ true
+  has-profile not_fixed = (one-true place (is_some (profile_of cdt (general c.name) rows)) of_names (of-dynamic not_fixed)).0
+
+  dynamic-names : is_fixed c.name ≡ false → AllByRecursion (λ (p : Profile). is_name_by rows (facts_in c.name rows) p.name ≡ true) c.profiles
+  dynamic-names not_fixed =
+      let all = (one-true place (is_some (profile_of cdt (general c.name) rows)) of_names (of-dynamic not_fixed)).1 in
+      each-true (λ n p. n + 2) (λ (p : Profile). is_name_by rows (facts_in c.name rows) p.name) c.profiles (each-holds profile_width (name_facts rows (facts_in c.name rows)) (place + 14) c.profiles all)
+
+-- ---- the traits of a dynamic class are in its profile in CDT
 module _ (rows : Rows) where
   abbrev class_forms : List ClassRow → Form ClassRow
   class_forms = class rows.options.categories
 
-  each-class : (before items : List ClassRow) → ItemsFit class_forms before items → AllByRecursion (λ c. (n : ℕ) × (first_broken (class_facts rows n c) ≡ None)) items → AllByRecursion (IsClass rows) items
-  each-class before [] f h = tt
-  each-class before (c ∷ items) f h =
-      let fits = class-fits rows before c f.0 in
-      (record { active = fits.active; listed = fits.listed; profiles = each-profile rows c.name (entry_count before) [] c.profiles fits.profiles (global-names rows c h.0.0 h.0.1) }, each-class (before ++ c ∷ []) items f.1 h.1)
+  abbrev HasTraits : ClassRow → Type 0
+  HasTraits c = bytes_eq c.name cdt ≡ true → AllByRecursion (λ (p : Profile). is_some (traits_of p.members) ≡ true) c.profiles
+
+  of-cdt : (before : List ClassRow) (c : ClassRow) → (class_forms before).Fits c → HasTraits c
+  of-cdt before c f in_cdt =
+      let one : (earlier : List Profile) (p : Profile) → (profile rows.options.categories c.name (entry_count before) earlier).Fits p → is_some (traits_of p.members) ≡ true = λ earlier p fits.
+      subst (λ b. IsTrue (not b || is_some (traits_of p.members))) in_cdt (profile-fits rows.options c.name (entry_count before) earlier p fits).members.traits in
+      all-fit (λ (p : Profile). is_some (traits_of p.members) ≡ true) (profile rows.options.categories c.name (entry_count before)) one [] c.profiles (class-fits rows before c f).profiles
+
+  module _ (each : AllByRecursion HasTraits rows.classes) where
+    traits-found : (name : List ℕ) → is_some (profile_of cdt (general name) rows) ≡ true → is_some (traits_in name rows) ≡ true
+    traits-found name h = by (class_of cdt rows) refl h
+      where
+        within : (c : ClassRow) → class_of cdt rows ≡ Some c → (o : Option Profile) → find (is_profile (general name)) c.profiles ≡ o → is_some o ≡ true → is_some (option_and_then (λ (p : Profile). traits_of p.members) o) ≡ true
+        within c e None k i = absurd cc
+        within c e (Some p) k i =
+            let own : bytes_eq c.name cdt ≡ true = find-passes (is_class cdt) c rows.classes e in
+            found-in (λ (q : Profile). is_some (traits_of q.members) ≡ true) (is_profile (general name)) c.profiles p (found-in HasTraits (is_class cdt) rows.classes c each e own) k
+
+        by : (o : Option ClassRow) → class_of cdt rows ≡ o → is_some (option_and_then (λ (row : ClassRow). find (is_profile (general name)) row.profiles) o) ≡ true
+            → is_some (option_and_then (λ (p : Profile). traits_of p.members) (option_and_then (λ (row : ClassRow). find (is_profile (general name)) row.profiles) o)) ≡ true
+        by None e k = absurd cc
+        by (Some c) e k = within c e (find (is_profile (general name)) c.profiles) refl k
+
+    may-list : (listed : Bool) (fixed : Option ClassFacts) (traits : Option ClassTraits) → (fixed ≡ None → is_some traits ≡ true) → IsTrue (not listed || option_map_or (λ (facts : ClassFacts). facts.raclist) fixed true)
+        → IsTrue (not listed || option_map_or (λ (facts : ClassFacts). facts.raclist) (option_or fixed (option_map facts_of_traits traits)) false)
+    may-list listed None None d h = absurd (true≢false (sym (d refl)))
+    may-list listed None (Some traits) d h = h
+    may-list listed (Some facts) traits d h = h
+
+    each-class : (before items : List ClassRow) → ItemsFit class_forms before items → AllByRecursion (λ c. (n : ℕ) × (first_broken (class_facts rows n c) ≡ None)) items → AllByRecursion (IsClass rows) items
+    each-class before [] f h = tt
+    each-class before (c ∷ items) f h =
+        let fits = class-fits rows before c f.0 in
+        let traits : facts_of c.name ≡ None → is_some (traits_in c.name rows) ≡ true = λ none. traits-found c.name (has-profile rows c h.0.0 h.0.1 (not-fixed c.name none)) in (
+          record {
+            active = fits.active;
+            listed = may-list c.listed (facts_of c.name) (traits_in c.name rows) traits fits.listed;
+            profiles = each-profile rows c.name (entry_count before) [] c.profiles fits.profiles (global-names rows c h.0.0 h.0.1) (λ none. dynamic-names rows c h.0.0 h.0.1 (not-fixed c.name none));
+          },
+          each-class (before ++ c ∷ []) items f.1 h.1,
+        )
 
   lawful-class : (before : List ClassRow) (c : ClassRow) → (class_forms before).Fits c → AreProfiles (kind_in c.name) c.profiles
   lawful-class before c f = let fits = class-fits rows before c f in are-profiles rows c.name (entry_count before) c.profiles fits.profiles fits.few
 
-  -- ---- the names in their order
-  same-name : (o : Option (List ℕ)) (name : List ℕ) → option_eq bytes_eq o (Some name) ≡ true → o ≡ Some name
-  same-name None name h = absurd cc
-  same-name (Some other) name h = ap (λ (n : List ℕ). Some n) (same other name h)
+-- ---- the dynamic classes and their profiles in CDT
+module _ (rows : Rows) (told_all : AllByRecursion (λ c. (n : ℕ) × (first_broken (class_facts rows n c) ≡ None)) rows.classes) where
+  abbrev Defines : ClassRow → Type 0
+  Defines c = bytes_eq c.name cdt ≡ true → AllByRecursion (λ (p : Profile). defines_class rows p.name.text ≡ true) c.profiles
 
-  one-of : (x y : List ℕ) → slice_get (y ∷ []) 0 ≡ Some x → y ≡ x
-  one-of x y h = cc
+  each-defines : (items : List ClassRow) → AllByRecursion (λ c. (n : ℕ) × (first_broken (class_facts rows n c) ≡ None)) items → AllByRecursion Defines items
+  each-defines [] h = tt
+  each-defines (c ∷ items) h = (defined-classes rows c h.0.0 h.0.1, each-defines items h.1)
 
-  drop-at : (all : List (List ℕ)) (n : ℕ) (x : List ℕ) → slice_get all n ≡ Some x → drop n all ≡ x ∷ drop (suc n) all
-  drop-at [] n x h = absurd cc
-  drop-at (y ∷ all) zero x h = ap (λ (z : List ℕ). z ∷ all) (one-of x y h)
-  drop-at (y ∷ all) (suc n) x h = drop-at all n x h
+  each-defined : (items : List ClassRow) → AllByRecursion (λ c. (n : ℕ) × (first_broken (class_facts rows n c) ≡ None)) items → AllByRecursion (λ (c : ClassRow). (is_fixed c.name || is_some (profile_of cdt (general c.name) rows)) ≡ true) items
+  each-defined [] h = tt
+  each-defined (c ∷ items) h = (by (is_fixed c.name) (λ e. has-profile rows c h.0.0 h.0.1 e), each-defined items h.1)
+    where
+      by : (b : Bool) → (b ≡ false → is_some (profile_of cdt (general c.name) rows) ≡ true) → (b || is_some (profile_of cdt (general c.name) rows)) ≡ true
+      by true d = refl
+      by false d = d refl
 
-  abbrev fixed_names : List (List ℕ)
-  fixed_names = map class_name fixed_classes
+  all-there : IsTrue (list_all (λ (p : Profile). not (is_fixed p.name.text) && is_some (class_of p.name.text rows)) (profiles_of cdt rows))
+  all-there = by (class_of cdt rows) refl
+    where
+      by : (o : Option ClassRow) → class_of cdt rows ≡ o → list_all (λ (p : Profile). not (is_fixed p.name.text) && is_some (class_of p.name.text rows)) (option_map_or (λ (row : ClassRow). row.profiles) o []) ≡ true
+      by None e = refl
+      by (Some c) e = all-true (λ (p : Profile). not (is_fixed p.name.text) && is_some (class_of p.name.text rows)) c.profiles (found-in Defines (is_class cdt) rows.classes c (each-defines rows.classes told_all) e (find-passes (is_class cdt) c rows.classes e))
 
-  names-fixed : (before items : List ClassRow) → ItemsFit class_forms before items → length before + length items ≡ 14 → map (λ (c : ClassRow). c.name) items ≡ drop (length before) fixed_names
-  names-fixed before [] f count = sym (drop_all (length before) fixed_names (omega (arith, count)))
-  names-fixed before (c ∷ items) f count =
-      let at : slice_get fixed_names (length before) ≡ Some c.name = same-name (slice_get fixed_names (length before)) c.name (class-fits rows before c f.0).placed in
-      let longer : length (before ++ c ∷ []) ≡ suc (length before) = omega (arith, length-append before (c ∷ [])) in
-      let rest = names-fixed (before ++ c ∷ []) items f.1 (omega (arith, longer, count)) in
-      ap (λ (names : List (List ℕ)). c.name ∷ names) (rest ∙ ap (λ n. drop n fixed_names) longer) ∙ sym (drop-at fixed_names (length before) c.name at)
+  dynamic-classes : AreDynamic rows
+  dynamic-classes = record {
+    defined = all-true (λ (c : ClassRow). is_fixed c.name || is_some (profile_of cdt (general c.name) rows)) rows.classes (each-defined rows.classes told_all);
+    there = all-there;
+  }
 
 record ClassesFit (rows : Rows) : Type 0 where
   pub items : ItemsFit (class rows.options.categories) [] rows.classes
-  pub count : length rows.classes ≡ 14
+  pub many : 15 ≤ length rows.classes
+  pub few : length rows.classes ≤ most_classes
 
 classes-fit : (rows : Rows) → IsStored rows → ClassesFit rows
-unfolding image
-classes-fit rows stored = record { items = stored.fields.1.1.1.0.1; count = eqb-true (length rows.classes) 14 stored.fields.1.1.1.0.0.1 }
+unfolding image_by
+classes-fit rows stored =
+    let count = and_parts (nat_le 15 (length rows.classes)) (nat_le (length rows.classes) most_classes) stored.fields.1.1.1.0.0.1 in
+    record { items = stored.fields.1.1.1.0.1; many = leb-true 15 (length rows.classes) count.0; few = leb-true (length rows.classes) most_classes count.1 }
 
 module _ (rows : Rows) (stored : IsStored rows) where
   fitting : ClassesFit rows
@@ -440,12 +607,15 @@ module _ (rows : Rows) (stored : IsStored rows) where
 
   pub are-classes : AreClasses rows.classes
   are-classes = record {
-    fixed = names-fixed rows [] rows.classes fitting.items (omega (arith, fitting.count));
+    names = are-names rows rows.classes fitting.items fitting.many fitting.few;
     lawful = all-fit (λ (c : ClassRow). AreProfiles (kind_in c.name) c.profiles) (class rows.options.categories) (lawful-class rows) [] rows.classes fitting.items;
   }
 
   pub lawful-classes : AllByRecursion (IsClass rows) rows.classes
-  lawful-classes = each-class rows [] rows.classes fitting.items (holding rows stored.between).classes
+  lawful-classes = each-class rows (all-fit (HasTraits rows) (class rows.options.categories) (of-cdt rows) [] rows.classes fitting.items) [] rows.classes fitting.items (holding rows stored.between).classes
+
+  pub are-dynamic : AreDynamic rows
+  are-dynamic = dynamic-classes rows (holding rows stored.between).classes
 
   pub few-profiles : profile_count rows.classes ≤ most_profiles
   few-profiles =

@@ -15,7 +15,7 @@ use Rattle.racf_profiles.specs.Tree.{IsTree}
 use Rattle.racf_profiles.proofs.Named.{same, itself}
 use Rattle.racf_profiles.proofs.States.{find-passes}
 use Rattle.database_image.specs.Forms.{Form, ItemsFit}
-use Rattle.database_image.specs.Description.{is_superior_of, group, image}
+use Rattle.database_image.specs.Description.{is_superior_of, group, image_by, image}
 use Rattle.database_image.specs.Facts.{Fact, told, told_of_each, first_broken, group_width, user_width, class_width, group_facts, user_facts, class_facts, is_superior_in, is_there, leads_to, later_facts, facts, groups_place, users_place, classes_place}
 use Rattle.database_image.specs.Image.{IsStored}
 use Rattle.database_image.specs.Ways.{above, climbed}
@@ -105,7 +105,7 @@ unfolding group
 superior-fits before g f = f.1.0.1
 
 fits-groups : (rows : Rows) → image.Fits rows → AllByRecursion (λ (g : Group). IsTrue (is_superior_of g.id g.superior)) rows.groups
-unfolding image
+unfolding image_by
 fits-groups rows f = all-fit (λ (g : Group). IsTrue (is_superior_of g.id g.superior)) group superior-fits [] rows.groups f.1.0.1
 
 -- ---- the tree

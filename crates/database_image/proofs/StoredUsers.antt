@@ -19,7 +19,7 @@ use Rattle.racf_profiles.specs.Names.{connections, connected_to, is_connected_to
 use Rattle.racf_profiles.specs.LawfulUsers.{AreUsers, IsUser, is_printable, is_user_name, is_clauth_class}
 use Rattle.database_image.specs.Forms.{Form, ItemsFit}
 use Rattle.database_image.specs.Fields.{id, is_new, itself, group_text, front, of_text, text_in, filled}
-use Rattle.database_image.specs.Description.{connection, group, user, image}
+use Rattle.database_image.specs.Description.{connection, group, user, image_by}
 use Rattle.database_image.specs.Facts.{told, first_broken, class_id_width, connect_width, class_id_facts, connect_facts, user_facts, is_there}
 use Rattle.database_image.specs.Image.{IsStored}
 use Rattle.database_image.proofs.Sets.{not-below}
@@ -164,7 +164,7 @@ record UsersFit (rows : Rows) : Type 0 where
   few : IsTrue (nat_le (length rows.users) most_users)
 
 users-fit : (rows : Rows) → IsStored rows → UsersFit rows
-unfolding image
+unfolding image_by
 users-fit rows stored = record { items = stored.fields.1.1.0.1; few = stored.fields.1.1.0.0.1 }
 
 module _ (rows : Rows) (stored : IsStored rows) where
@@ -192,5 +192,5 @@ unfolding group
 group-spelled before g f = spelled-back g.id f.0.0.back
 
 pub group-names : (rows : Rows) → IsStored rows → AllByRecursion (λ (g : Group). group_of g.id ≡ Ok g.id) rows.groups
-unfolding image
+unfolding image_by
 group-names rows stored = all-fit (λ (g : Group). group_of g.id ≡ Ok g.id) group group-spelled [] rows.groups stored.fields.1.0.1

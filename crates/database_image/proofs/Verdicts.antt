@@ -9,9 +9,9 @@ use Rattle.racf_profiles.specs.declared.rows.Rows.{Rows}
 use Rattle.database_image.specs.declared.faults.ImageFault.{ImageFault}
 use Rattle.database_image.specs.declared.faults.ImageFault.TheVariants as faults
 use Rattle.database_image.specs.Reading.{◌>>=◌}
-use Rattle.database_image.specs.Description.{image}
+use Rattle.database_image.specs.Description.{image, read_image}
 use Rattle.database_image.specs.Facts.{facts, first_broken, classes_place, class_width}
-use Rattle.database_image.specs.Image.{image_of, unless_more, from_beginning, first_pass, unless_broken, second_pass, rows_of, IsStored, FirstUnlawful, IsFirst, Judges, Reads}
+use Rattle.database_image.specs.Image.{image_of, completed, unless_more, from_beginning, first_pass, unless_broken, second_pass, rows_of, IsStored, FirstUnlawful, IsFirst, Judges, Reads}
 use Rattle.database_image.specs.Misleading.{marks}
 use Rattle.database_image.specs.Spelled.{AreSpelled}
 use Rattle.database_image.proofs.Images.{fields_only, behind-first}
@@ -22,10 +22,10 @@ use Rattle.database_image.proofs.JudgedRows.{judged-rows, wide-rows, decided-ima
 from-place : (place left size : ℕ) → place + left ≡ size → size - left ≡ place
 from-place place left size h = omega (arith, h)
 
-found-first : (rows : Rows) (bytes : List ℕ) → FindsIn (image.FaultAt rows) bytes (image.reading bytes) → Judges rows (rows_of bytes)
+found-first : (rows : Rows) (bytes : List ℕ) → FindsIn (image.FaultAt rows) bytes (read_image.reading bytes) → Judges rows (rows_of bytes)
 unfolding rows_of first_pass
 found-first rows bytes f =
-    let read : rows_of bytes ≡ Err f.place = ap (λ r. from_beginning bytes (r >>= λ x. unless_more x.0 x.1) >>= second_pass) f.reads ∙ ap (λ n. Err n) (from-place f.place f.left (length bytes) f.whole) in
+    let read : rows_of bytes ≡ Err f.place = ap (λ r. from_beginning bytes (r >>= λ x. unless_more (completed x.0) x.1) >>= second_pass) f.reads ∙ ap (λ n. Err n) (from-place f.place f.left (length bytes) f.whole) in
     subst (Judges rows) (sym read) (inl f.is)
 
 -- ---- rows each field of which is lawful
@@ -37,7 +37,7 @@ fitting-second : (rows : Rows) → image.Fits rows → Judges rows (second_pass 
 unfolding second_pass
 fitting-second rows fits = fitting rows fits (first_broken (facts rows)) refl
 
-whole-judged : (rows : Rows) → IsWhole (image.Fits rows) (image.FaultAt rows) (image.bytes rows) image.reading → Judges rows (rows_of (image.bytes rows))
+whole-judged : (rows : Rows) → IsWhole (image.Fits rows) (image.FaultAt rows) (image.bytes rows) read_image.reading → Judges rows (rows_of (image.bytes rows))
 unfolding image_of
 whole-judged rows (inl fits) = subst (Judges rows) (sym (behind-first (image_of rows) rows (fields_only rows fits))) (fitting-second rows fits)
 whole-judged rows (inr found) = subst (λ (t : List ℕ). Judges rows (rows_of t)) (append-nil (image.bytes rows)) (found-first rows (image.bytes rows ++ []) (found []))
@@ -46,7 +46,7 @@ whole-judged rows (inr found) = subst (λ (t : List ℕ). Judges rows (rows_of t
 abbrev pub until : Option ℕ → List ℕ → List ℕ
 until o bytes = take (unwrap_or o (length bytes)) bytes
 
-judged-until : (rows : Rows) (o : Option ℕ) → Judgement (image.Fits rows) (image.FaultAt rows) (image.bytes rows) image.reading 0 o → Judges rows (rows_of (until o (image.bytes rows)))
+judged-until : (rows : Rows) (o : Option ℕ) → Judgement (image.Fits rows) (image.FaultAt rows) (image.bytes rows) read_image.reading 0 o → Judges rows (rows_of (until o (image.bytes rows)))
 judged-until rows None h = subst (λ (t : List ℕ). Judges rows (rows_of t)) (sym (take-length (image.bytes rows))) (whole-judged rows h)
 judged-until rows (Some place) c =
     let at : c.count ≡ place = sym (c.at ∙ zero-add c.count) in

@@ -15,7 +15,7 @@ use Rattle.racf_profiles.specs.declared.rows.Rows.{Rows}
 use Rattle.racf_profiles.specs.Edits.{at_class}
 use Rattle.racf_profiles.specs.NewDatabase.{new_database, ibmuser, no_options}
 use Rattle.database_image.specs.Forms.{IsSpelled, number_spelling, spelled_at}
-use Rattle.database_image.specs.Description.{options, group, connection, user, profile, class, image, pattern_in, is_pattern_at}
+use Rattle.database_image.specs.Description.{options, group, connection, user, profile, class, image_by, pattern_in, is_pattern_at}
 use Rattle.database_image.specs.Image.{image_of, first_pass, second_pass, rows_of, FirstUnlawful}
 use Rattle.database_image.specs.Spelled.{AreSpelled, IsSpelledUser, IsSpelledProfile, IsSpelledClass}
 use Rattle.database_image.proofs.Verdicts.{judged}
@@ -36,7 +36,7 @@ not-spelled n e h =
     absurd (omega (arith, wrapped))
 
 too-many : (names : List (List ℕ)) → length names ≡ 65541 → FirstUnlawful (with_categories names) 1
-unfolding image options
+unfolding image_by options
 too-many names e = inl (inl (inr ((record { whole = refl; back = refl }, refl), (0, inl (inl ((λ h. not-spelled (length names) e h.0), refl)), refl))))
 
 many-categories : FirstUnlawful (with_categories many) 1
@@ -63,7 +63,7 @@ others = (
           record { name = refl; profiles = tt },
           (
             record { name = refl; profiles = tt },
-            (record { name = refl; profiles = tt }, (record { name = refl; profiles = tt }, (record { name = refl; profiles = tt }, (record { name = refl; profiles = tt }, (record { name = refl; profiles = tt }, (record { name = refl; profiles = tt }, tt)))))),
+            (record { name = refl; profiles = tt }, (record { name = refl; profiles = tt }, (record { name = refl; profiles = tt }, (record { name = refl; profiles = tt }, (record { name = refl; profiles = tt }, (record { name = refl; profiles = tt }, (record { name = refl; profiles = tt }, tt))))))),
           ),
         ),
       ),
@@ -80,7 +80,7 @@ spelled-user user h = record {
 }
 
 long-name : FirstUnlawful (with_user long_name) 59
-unfolding image_of spelled_at rows_of first_pass second_pass image options group user connection class profile
+unfolding image_of spelled_at rows_of first_pass second_pass image_by options group user connection class profile
 long-name = judged (with_user long_name) (spelled-user long_name (record { id = refl; default_group = refl; owner = refl; level = omega arith; label = tt; classes = tt; connects = (refl, tt) }))
 
 -- ---- a fault of the second pass alone: no group has the name of the default group
@@ -88,7 +88,7 @@ abbrev other_default : User
 other_default = record ibmuser { default_group = codes "SYS2" }
 
 no-default : FirstUnlawful (with_user other_default) 43
-unfolding image_of spelled_at rows_of first_pass second_pass image options group user connection class profile
+unfolding image_of spelled_at rows_of first_pass second_pass image_by options group user connection class profile
 no-default = judged (with_user other_default) (spelled-user other_default (record { id = refl; default_group = refl; owner = refl; level = omega arith; label = tt; classes = tt; connects = (refl, tt) }))
 
 -- ---- a profile of FACILITY
@@ -121,18 +121,18 @@ spelled-profile row h = record {
 
 -- its name is kept with the kind of DATASET's names, and would be read with its own class's
 other-kind : FirstUnlawful (with_profile (plain DataSet (codes "A.B") None)) 147
-unfolding image_of spelled_at rows_of first_pass second_pass image options group user connection class profile pattern_in is_pattern_at
+unfolding image_of spelled_at rows_of first_pass second_pass image_by options group user connection class profile pattern_in is_pattern_at
 other-kind = judged (with_profile (plain DataSet (codes "A.B") None)) (spelled-profile (plain DataSet (codes "A.B") None)
     (record { name = refl; owner = refl; level = omega arith; label = tt; standard = tt; conditional = tt; members = tt }))
 
 -- successes are logged from no access on, which would be read as from no level on
 no-access : FirstUnlawful (with_profile (plain General (codes "A.B") (Some NoAccess))) 160
-unfolding image_of spelled_at rows_of first_pass second_pass image options group user connection class profile pattern_in is_pattern_at
+unfolding image_of spelled_at rows_of first_pass second_pass image_by options group user connection class profile pattern_in is_pattern_at
 no-access = judged (with_profile (plain General (codes "A.B") (Some NoAccess))) (spelled-profile (plain General (codes "A.B") (Some NoAccess))
     (record { name = refl; owner = refl; level = omega arith; label = tt; standard = tt; conditional = tt; members = tt }))
 
 -- an ordinary fault of the first pass: a set of categories of which none is defined
 undefined-category : FirstUnlawful (with_profile (record (plain General (codes "A.B") None) { categories = 1 })) 165
-unfolding image_of spelled_at rows_of first_pass second_pass image options group user connection class profile pattern_in is_pattern_at
+unfolding image_of spelled_at rows_of first_pass second_pass image_by options group user connection class profile pattern_in is_pattern_at
 undefined-category = judged (with_profile (record (plain General (codes "A.B") None) { categories = 1 })) (spelled-profile (record (plain General (codes "A.B") None) { categories = 1 })
     (record { name = refl; owner = refl; level = omega arith; label = tt; standard = tt; conditional = tt; members = tt }))

@@ -1,5 +1,5 @@
 -- The image of a database: its fields, one behind another, each with what is lawful in it.
-use Rattle.std.specs.Prelude.{ℕ, zero, suc, ◌==◌, ◌^◌, ◌+◌, nat_lt, nat_le, Bool, true, false, not, ◌&&◌, ◌||◌, List, [], ◌∷◌, ◌++◌, length, map, Option, Some, None, is_ok, bytes_eq, codes, if◌then◌else◌}
+use Rattle.std.specs.Prelude.{ℕ, zero, suc, ◌==◌, ◌^◌, ◌+◌, ◌-◌, nat_lt, nat_le, Bool, true, false, not, ◌&&◌, ◌||◌, List, [], ◌∷◌, ◌++◌, length, map, Option, Some, None, is_ok, bytes_eq, codes, if◌then◌else◌}
 use Rattle.std.specs.List.{list_any, list_all, sum_by, slice_get}
 use Rattle.std.specs.Option.{option_map_or, option_eq}
 use Rattle.std.specs.Result.{result_ok}
@@ -35,10 +35,11 @@ use Rattle.racf_profiles.specs.declared.rows.Rows.{Rows}
 use Rattle.racf_profiles.specs.NewDatabase.{sys1}
 use Rattle.racf_profiles.specs.ClassTable.{class_name, fixed_classes, facts_of}
 use Rattle.racf_profiles.specs.Names.{connections}
+use Rattle.racf_profiles.specs.DynamicClasses.{cdt}
 use Rattle.racf_profiles.specs.Counts.{profile_count, entry_count, entries_in}
 use Rattle.racf_profiles.specs.Limits.{most_users, most_groups, most_connections, most_connections_in_all, most_class_profiles, most_profiles, most_list_entries, most_entries_in_all, most_members, most_categories}
 use Rattle.racf_profiles.specs.LawfulUsers.{is_printable}
-use Rattle.racf_profiles.specs.LawfulProfiles.{kind_in, member_name}
+use Rattle.racf_profiles.specs.LawfulProfiles.{kind_in, member_name, most_classes, names_of}
 use Rattle.database_image.specs.Forms.{Form, Part, the, followed, done, field, number, listed}
 use Rattle.database_image.specs.Fields.{any, below, at_most, filled, id, group_name, label, group_or_none, who_text, who, ranked, itself, category_set, text_spelling, bit, is_set, is_new}
 
@@ -146,8 +147,9 @@ comes_behind (profile ∷ other ∷ profiles) name = comes_behind (other ∷ pro
 abbrev pub spelled_text : Spelled → List ℕ
 spelled_text name = name.text
 
+-- What the name of a dynamic class's profile has to be, its profile in CDT says, which stands elsewhere.
 unfoldable pub is_pattern_at : (class : List ℕ) → (before : List Profile) → Spelled → Bool
-is_pattern_at class earlier name = option_map_or (λ facts. is_name_in facts name && comes_behind earlier name) (facts_of class) false
+is_pattern_at class earlier name = option_map_or (λ facts. is_name_in facts name) (facts_of class) true && comes_behind earlier name
 
 -- The name that a text spells in a class, and the name of a member in a profile.
 unfoldable pub pattern_in : (class text : List ℕ) → Option Spelled
@@ -202,17 +204,19 @@ cond_entry before = do
   level ← the (λ e. e.level) (ranked level_rank levels)
   done (record { condition = record { class = class; name = port }; who = who; level = level })
 
--- ---- members: of GLOBAL, of SECDATA's SECLEVEL, and of its CATEGORY
+-- ---- members: of GLOBAL, of SECDATA's SECLEVEL, of its CATEGORY, and of CDT
 abbrev pub member_kind : Member → ℕ
 member_kind (members.Access resources level) = 1
 member_kind (members.SecurityLevel name number) = 2
 member_kind (members.Category name) = 3
+member_kind (members.Traits traits) = 4
 
 abbrev pub is_kind_in : (class profile : List ℕ) → ℕ → Bool
 is_kind_in class profile kind =
     (kind == 1 && bytes_eq class (codes "GLOBAL"))
     || (kind == 2 && bytes_eq class (codes "SECDATA") && bytes_eq profile (codes "SECLEVEL"))
     || (kind == 3 && bytes_eq class (codes "SECDATA") && bytes_eq profile (codes "CATEGORY"))
+    || (kind == 4 && bytes_eq class cdt)
 
 abbrev pub resources_of : Member → Spelled
 resources_of (members.Access resources level) = resources
@@ -225,6 +229,14 @@ level_of_member _ = NoAccess
 abbrev pub number_of_member : Member → ℕ
 number_of_member (members.SecurityLevel name number) = number
 number_of_member _ = 0
+
+abbrev pub trait_flags : Member → ℕ
+trait_flags (members.Traits traits) = bit 1 traits.operations + bit 2 traits.ids
+trait_flags _ = 0
+
+abbrev pub longest_of_member : Member → ℕ
+longest_of_member (members.Traits traits) = traits.longest
+longest_of_member _ = 0
 
 abbrev pub is_new_member : List Member → List ℕ → Bool
 is_new_member before name = is_new (map member_name before) name
@@ -246,16 +258,28 @@ category_member categories before = do
   name ← the member_name (id (λ name. is_new_member before name && list_any (λ other. bytes_eq other name) categories))
   done (members.Category name)
 
+-- No traits stand behind others.
+abbrev pub traits_member : List Member → Form Member
+traits_member before = do
+  flags ← the trait_flags (number 1 (λ flags. nat_lt flags 4 && is_new_member before []))
+  longest ← the longest_of_member (number 1 (λ n. nat_le 1 n && nat_le n 246))
+  done (members.Traits (record { operations = is_set flags 1; ids = is_set flags 2; longest = longest }))
+
 abbrev pub member_of_kind : (names : List (List ℕ)) → (profile : List ℕ) → List Member → (kind : ℕ) → Form Member
-member_of_kind names profile earlier zero = category_member names earlier
+member_of_kind names profile earlier zero = traits_member earlier
 member_of_kind names profile earlier (suc zero) = access_member profile earlier
 member_of_kind names profile earlier (suc (suc zero)) = level_member earlier
-member_of_kind names profile earlier (suc (suc (suc n))) = category_member names earlier
+member_of_kind names profile earlier (suc (suc (suc zero))) = category_member names earlier
+member_of_kind names profile earlier (suc (suc (suc (suc n)))) = traits_member earlier
 
 unfoldable pub member : (categories : List (List ℕ)) → (class profile : List ℕ) → (before : List Member) → Form Member
 member categories class profile before = do
   kind ← the member_kind (number 1 (is_kind_in class profile))
   member_of_kind categories profile before kind
+
+-- A profile in CDT has one member.
+abbrev pub is_member_count : (class : List ℕ) → ℕ → Bool
+is_member_count class count = if bytes_eq class cdt then count == 1 else nat_le count most_members
 
 -- A profile of a class, behind others of the class and so many entries in the classes before.
 unfoldable pub profile : (categories : List (List ℕ)) → (class : List ℕ) → (entries : ℕ) → (before : List Profile) → Form Profile
@@ -273,21 +297,24 @@ profile categories class entries before = do
   label ← the (λ p. p.label) label
   standard ← the (λ p. p.standard) (listed 2 (within most_list_entries most_entries_in_all (entries + sum_by entries_in before)) entry)
   conditional ← the (λ p. p.conditional) (listed 2 (within most_list_entries most_entries_in_all (entries + sum_by entries_in before + length standard)) cond_entry)
-  members ← the (λ p. p.members) (listed 2 (at_most most_members) (member categories class name.text))
+  members ← the (λ p. p.members) (listed 2 (is_member_count class) (member categories class name.text))
   done (record { name = name; owner = owner; uacc = uacc; warning = warning; standard = standard; conditional = conditional; level = level; categories = set; label = label; audit = record { success = success; failures = failures }; global_audit = record { success = global_success; failures = global_failures }; members = members })
 
 -- ---- classes
 abbrev pub class_flags : ClassRow → ℕ
 class_flags c = bit 1 c.active + bit 2 c.listed + bit 4 c.global
 
--- DATASET is active, and only a class that may be RACLISTed is.
+-- DATASET is active, and of the fixed classes only one that may be RACLISTed is; a dynamic one may be.
 abbrev pub are_class_flags : (name : List ℕ) → ℕ → Bool
 are_class_flags name flags = nat_lt flags 8 && (is_set flags 1 || not (bytes_eq name (codes "DATASET")))
-    && (not (is_set flags 2) || option_map_or (λ (facts : ClassFacts). facts.raclist) (facts_of name) false)
+    && (not (is_set flags 2) || option_map_or (λ (facts : ClassFacts). facts.raclist) (facts_of name) true)
 
--- The classes have the names of the fixed ones in their order.
-abbrev pub is_class_at : (place : ℕ) → List ℕ → Bool
-is_class_at place name = option_eq bytes_eq (slice_get (map class_name fixed_classes) place) (Some name)
+-- The classes have the names of the fixed ones in their order, and those behind them have new names.
+abbrev pub fixed_names : List (List ℕ)
+fixed_names = map class_name fixed_classes
+
+abbrev pub is_class_at : (before : List (List ℕ)) → List ℕ → Bool
+is_class_at before name = if nat_lt (length before) (length fixed_names) then option_eq bytes_eq (slice_get fixed_names (length before)) (Some name) else is_new before name
 
 abbrev pub log_rank : LogOption → ℕ
 log_rank log.ByProfile = 0
@@ -301,17 +328,34 @@ log_options = log.ByProfile ∷ log.Always ∷ log.Never ∷ log.Successes ∷ l
 
 unfoldable pub class : (categories : List (List ℕ)) → (before : List ClassRow) → Form ClassRow
 class categories before = do
-  name ← the (λ c. c.name) (id (is_class_at (length before)))
+  name ← the (λ c. c.name) (id (is_class_at (names_of before)))
   flags ← the (λ c. class_flags c) (number 1 (are_class_flags name))
   log ← the (λ c. c.log) (ranked log_rank log_options)
   profiles ← the (λ c. c.profiles) (listed 4 (within most_class_profiles most_profiles (profile_count before)) (profile categories name (entry_count before)))
   done (record { name = name; active = is_set flags 1; listed = is_set flags 2; global = is_set flags 4; log = log; profiles = profiles })
 
 -- ---- the whole
-unfoldable pub image : Form Rows
-image = do
+-- Before there was the class CDT the classes ended with GLOBAL: such an image is still read, and none is written.
+abbrev pub is_class_count : ℕ → Bool
+is_class_count count = nat_le (length fixed_classes) count && nat_le count most_classes
+
+abbrev pub is_old_count : ℕ → Bool
+is_old_count count = count == length fixed_classes - 1
+
+abbrev pub is_read_count : ℕ → Bool
+is_read_count count = is_old_count count || is_class_count count
+
+-- The image of rows with so many classes.
+unfoldable pub image_by : (is_count : ℕ → Bool) → Form Rows
+image_by is_count = do
   options ← the (λ r. r.options) options
   groups ← the (λ r. r.groups) (listed 4 (at_most most_groups) group)
   users ← the (λ r. r.users) (listed 4 (at_most most_users) (user (length options.categories)))
-  classes ← the (λ r. r.classes) (listed 2 (λ count. count == length fixed_classes) (class options.categories))
+  classes ← the (λ r. r.classes) (listed 2 is_count (class options.categories))
   done (record { users = users; groups = groups; classes = classes; options = options })
+
+abbrev pub image : Form Rows
+image = image_by is_class_count
+
+abbrev pub read_image : Form Rows
+read_image = image_by is_read_count

@@ -2,15 +2,19 @@
 use Rattle.std.specs.Prelude.{ℕ, zero, suc, ◌+◌, ◌*◌, Bool, false, not, ◌&&◌, ◌||◌, List, [], ◌∷◌, ◌++◌, length, Option, is_some, option_map, bytes_eq, codes, if◌then◌else◌}
 use Rattle.std.specs.List.{find, list_any, sum_by}
 use Rattle.std.specs.Option.{option_map_or, option_and_then}
+use Rattle.generic_names.specs.Spelled.{Spelled}
 use Rattle.racf_profiles.specs.declared.users.User.{User}
 use Rattle.racf_profiles.specs.declared.users.Connect.{Connect}
 use Rattle.racf_profiles.specs.declared.groups.Group.{Group}
 use Rattle.racf_profiles.specs.declared.class_rows.ClassRow.{ClassRow}
 use Rattle.racf_profiles.specs.declared.profiles.Profile.{Profile}
 use Rattle.racf_profiles.specs.declared.profiles.Member.{Member}
-use Rattle.racf_profiles.specs.declared.profiles.Member.TheVariants.{Access, SecurityLevel, Category}
+use Rattle.racf_profiles.specs.declared.profiles.Member.TheVariants.{Access, SecurityLevel, Category, Traits}
+use Rattle.racf_profiles.specs.declared.fixed_classes.ClassFacts.{ClassFacts}
 use Rattle.racf_profiles.specs.declared.rows.Rows.{Rows}
-use Rattle.racf_profiles.specs.Lookup.{find_group, class_of}
+use Rattle.racf_profiles.specs.Lookup.{find_group, class_of, profile_of}
+use Rattle.racf_profiles.specs.DynamicClasses.{cdt, general, facts_in, is_fixed}
+use Rattle.racf_profiles.specs.LawfulProfiles.{is_profile_name}
 use Rattle.racf_profiles.specs.Names.{is_connected_to, is_special_user}
 use Rattle.racf_profiles.specs.LawfulUsers.{is_clauth_class}
 
@@ -44,6 +48,7 @@ abbrev pub member_width : Member → ℕ
 member_width (Access resources level) = 4 + length resources.text
 member_width (SecurityLevel name number) = 10
 member_width (Category name) = 9
+member_width (Traits traits) = 3
 
 abbrev pub profile_width : Profile → ℕ
 profile_width profile = 63 + length profile.name.text + 9 * length profile.standard + 18 * length profile.conditional + sum_by member_width profile.members
@@ -82,12 +87,34 @@ user_facts rows place user =
     ∷ told_of_each class_id_width (class_id_facts rows) (place + 68 + length user.name) user.classes
     ++ told_of_each connect_width (connect_facts rows) (place + 70 + length user.name + 8 * length user.classes) user.connects
 
--- ---- profiles: each in GLOBAL has the name of a class
+-- ---- classes: each profile in GLOBAL has the name of a class, and each in CDT that of a dynamic one
 abbrev pub profile_facts : Rows → ℕ → Profile → List Fact
 profile_facts rows place profile = told (place + 2) (is_some (class_of profile.name.text rows)) ∷ []
 
+abbrev pub defines_class : Rows → List ℕ → Bool
+defines_class rows name = not (is_fixed name) && is_some (class_of name rows)
+
+abbrev pub definition_facts : Rows → ℕ → Profile → List Fact
+definition_facts rows place profile = told (place + 2) (defines_class rows profile.name.text) ∷ []
+
+-- A dynamic class has its profile in CDT, by which the names of its own profiles are lawful.
+abbrev pub is_name_by : Rows → Option ClassFacts → Spelled → Bool
+is_name_by rows facts name = option_map_or (is_profile_name rows name) facts false
+
+abbrev pub name_facts : Rows → Option ClassFacts → ℕ → Profile → List Fact
+name_facts rows facts place profile = told (place + 2) (is_name_by rows facts profile.name) ∷ []
+
+abbrev pub dynamic_facts : Rows → ℕ → ClassRow → List Fact
+dynamic_facts rows place class =
+    told place (is_some (profile_of cdt (general class.name) rows))
+    ∷ told_of_each profile_width (name_facts rows (facts_in class.name rows)) (place + 14) class.profiles
+
 abbrev pub class_facts : Rows → ℕ → ClassRow → List Fact
-class_facts rows place class = if bytes_eq class.name (codes "GLOBAL") then told_of_each profile_width (profile_facts rows) (place + 14) class.profiles else []
+class_facts rows place class =
+    if bytes_eq class.name (codes "GLOBAL") then told_of_each profile_width (profile_facts rows) (place + 14) class.profiles
+    else if bytes_eq class.name cdt then told_of_each profile_width (definition_facts rows) (place + 14) class.profiles
+    else if is_fixed class.name then []
+    else dynamic_facts rows place class
 
 -- ---- all of them
 abbrev pub groups_place : Rows → ℕ

@@ -1,11 +1,14 @@
 -- The image of rows, and what bytes are the image of.
-use Rattle.std.specs.Prelude.{◌≡◌, ◌⊎◌, ℕ, ◌-◌, List, [], ◌∷◌, length, Option, Some, None, Result, Ok, Err}
+use Rattle.std.specs.Prelude.{◌≡◌, ◌⊎◌, ℕ, ◌-◌, List, [], ◌∷◌, ◌++◌, length, if◌then◌else◌, Option, Some, None, Result, Ok, Err}
 use Rattle.std.specs.Result.{result_err}
+use Rattle.racf_profiles.specs.declared.class_rows.ClassRow.{ClassRow}
 use Rattle.racf_profiles.specs.declared.rows.Rows.{Rows}
+use Rattle.racf_profiles.specs.DynamicClasses.{cdt}
+use Rattle.racf_profiles.specs.Edits.{added_class}
 use Rattle.database_image.specs.declared.faults.ImageFault.{ImageFault}
 use Rattle.database_image.specs.declared.faults.ImageFault.TheVariants as faults
 use Rattle.database_image.specs.Reading.{◌>>=◌}
-use Rattle.database_image.specs.Description.{image}
+use Rattle.database_image.specs.Description.{is_old_count, image, read_image}
 use Rattle.database_image.specs.Facts.{facts, first_broken}
 
 -- The image of rows. Listed copies aren't in it.
@@ -17,13 +20,27 @@ abbrev pub unless_more : Rows → (behind : List ℕ) → Result Rows ℕ
 unless_more rows [] = Ok rows
 unless_more rows (byte ∷ behind) = Err (length (byte ∷ behind))
 
+-- Rows of an image whose classes end with GLOBAL have the class CDT behind it as a new database has it: not active, and
+-- without profiles.
+abbrev pub with_cdt : List ClassRow → List ClassRow
+with_cdt classes = if is_old_count (length classes) then classes ++ added_class cdt ∷ [] else classes
+
+abbrev pub completed : Rows → Rows
+completed rows = record rows { classes = with_cdt rows.classes }
+
+-- These bytes are the image of the rows, or of those that become them when the class CDT is added.
+pub record AreImageOf (bytes : List ℕ) (rows : Rows) : Type 0 where
+  pub written : Rows
+  pub whole : completed written ≡ rows
+  pub is : bytes ≡ image_of written
+
 -- The first pass tests each field by itself. A fault's place is told from the image's beginning.
 abbrev pub from_beginning : (bytes : List ℕ) → Result Rows ℕ → Result Rows ℕ
 from_beginning bytes (Ok rows) = Ok rows
 from_beginning bytes (Err left) = Err (length bytes - left)
 
 unfoldable pub first_pass : (bytes : List ℕ) → Result Rows ℕ
-first_pass bytes = from_beginning bytes (image.reading bytes >>= λ read. unless_more read.0 read.1)
+first_pass bytes = from_beginning bytes (read_image.reading bytes >>= λ read. unless_more (completed read.0) read.1)
 
 -- The second pass tests the facts between fields.
 abbrev pub unless_broken : Rows → Option ℕ → Result Rows ℕ

@@ -1,15 +1,16 @@
 -- Fields that may mislead: values of rows that no image has, but whose bytes would be read as others. Each is told as a
 -- fact: its place, and whether it is read as itself.
-use Rattle.std.specs.Prelude.{ℕ, ◌+◌, ◌*◌, ◌^◌, Bool, nat_lt, List, [], ◌∷◌, ◌++◌, length}
+use Rattle.std.specs.Prelude.{ℕ, ◌+◌, ◌*◌, ◌^◌, Bool, not, ◌&&◌, nat_lt, List, [], ◌∷◌, ◌++◌, length}
 use Rattle.std.specs.List.{sum_by}
 use Rattle.generic_names.specs.declared.kind.NameKind.{NameKind}
 use Rattle.racf_profiles.specs.declared.users.User.{User}
 use Rattle.racf_profiles.specs.declared.profiles.Profile.{Profile}
 use Rattle.racf_profiles.specs.declared.profiles.Member.{Member}
-use Rattle.racf_profiles.specs.declared.profiles.Member.TheVariants.{Access, SecurityLevel, Category}
+use Rattle.racf_profiles.specs.declared.profiles.Member.TheVariants.{Access, SecurityLevel, Category, Traits}
 use Rattle.racf_profiles.specs.declared.class_rows.ClassRow.{ClassRow}
 use Rattle.racf_profiles.specs.declared.rows.Rows.{Rows}
 use Rattle.racf_profiles.specs.LawfulProfiles.{kind_in, is_of_kind, is_logged_level}
+use Rattle.database_image.specs.Description.{is_old_count}
 use Rattle.database_image.specs.Facts.{Fact, told, told_of_each, user_width, member_width, profile_width, class_width, users_place}
 
 -- A count, or a length, is read as itself where it has room in so many bytes.
@@ -34,6 +35,7 @@ abbrev pub member_marks : NameKind → ℕ → Member → List Fact
 member_marks kind place (Access resources level) = told (place + 3) (is_of_kind kind resources.kind) ∷ []
 member_marks kind place (SecurityLevel name number) = []
 member_marks kind place (Category name) = []
+member_marks kind place (Traits traits) = []
 
 -- of a profile: whether its name is of its class's kind, whether each level of auditing is one of an access, the set of
 -- categories, and how many entries and members there are
@@ -65,6 +67,10 @@ class_marks place class =
     told (place + 10) (has_room 4 (length class.profiles))
     ∷ told_of_each profile_width (profile_marks (kind_in class.name)) (place + 14) class.profiles
 
+-- A count of classes is read as itself where it has room, and the class CDT is among them.
+abbrev pub tells_classes : ℕ → Bool
+tells_classes count = has_room 2 count && not (is_old_count count)
+
 -- ---- all of them, with how many categories, groups, users and classes there are
 abbrev pub marks : Rows → List Fact
 marks rows =
@@ -72,5 +78,5 @@ marks rows =
     ∷ told (3 + 8 * length rows.options.categories) (has_room 4 (length rows.groups))
     ∷ told (users_place rows) (has_room 4 (length rows.users))
     ∷ told_of_each user_width user_marks (users_place rows + 4) rows.users
-    ++ told (users_place rows + 4 + sum_by user_width rows.users) (has_room 2 (length rows.classes))
+    ++ told (users_place rows + 4 + sum_by user_width rows.users) (tells_classes (length rows.classes))
     ∷ told_of_each class_width class_marks (users_place rows + 6 + sum_by user_width rows.users) rows.classes

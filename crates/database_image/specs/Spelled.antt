@@ -13,7 +13,7 @@ use Rattle.racf_profiles.specs.declared.users.Connect.{Connect as Connection}
 use Rattle.racf_profiles.specs.declared.groups.Group.{Group}
 use Rattle.racf_profiles.specs.declared.profiles.Profile.{Profile}
 use Rattle.racf_profiles.specs.declared.profiles.Member.{Member}
-use Rattle.racf_profiles.specs.declared.profiles.Member.TheVariants.{Access, SecurityLevel, Category}
+use Rattle.racf_profiles.specs.declared.profiles.Member.TheVariants.{Access, SecurityLevel, Category, Traits}
 use Rattle.racf_profiles.specs.declared.class_rows.ClassRow.{ClassRow}
 use Rattle.racf_profiles.specs.declared.rows.Rows.{Rows}
 
@@ -56,6 +56,7 @@ abbrev pub IsSpelledMember : Member → Type 0
 IsSpelledMember (Access resources level) = IsMemberName resources
 IsSpelledMember (SecurityLevel name number) = IsId name × (number < 256)
 IsSpelledMember (Category name) = IsId name
+IsSpelledMember (Traits traits) = traits.longest < 256
 
 pub record IsSpelledProfile (profile : Profile) : Type 0 where
   pub name : IsPatternName profile.name

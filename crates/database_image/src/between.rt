@@ -4,18 +4,26 @@ ghost use Rattle.std.specs.List.{IsDistinct, list_any, sum_by};
 ghost use Rattle.indexmap.specs.IndexMap.{get};
 ghost use Rattle.racf_profiles.specs.declared.groups.Group.{Group};
 ghost use Rattle.racf_profiles.specs.Limits.{most_groups};
-ghost use Rattle.racf_profiles.specs.Lookup.{find_group, class_of, is_class};
+ghost use Rattle.racf_profiles.specs.Lookup.{find_group, class_of, profile_of, is_class};
 ghost use Rattle.racf_profiles.specs.Names.{is_connected_to, is_to, is_special_user};
+ghost use Rattle.racf_profiles.specs.ClassTable.{fixed_class};
+ghost use Rattle.racf_profiles.specs.DynamicClasses.{cdt, general, facts_in as facts_in_rows, is_fixed, is_short};
+ghost use Rattle.racf_profiles.specs.LawfulProfiles.{is_profile_name};
+ghost use Rattle.racf_profiles.specs.LawfulProfiles as lawful_names;
 ghost use Rattle.racf_profiles.specs.LawfulUsers.{is_clauth_class};
-ghost use Rattle.database_image.specs.Facts.{told_of_each, first_broken, group_width, class_id_width, connect_width, user_width, profile_width, class_width, group_facts, class_id_facts, connect_facts, user_facts, profile_facts, class_facts, is_superior_in, is_there, users_place, classes_place, later_facts, facts};
+ghost use Rattle.database_image.specs.Facts.{told_of_each, first_broken, group_width, class_id_width, connect_width, user_width, profile_width, class_width, group_facts, class_id_facts, connect_facts, user_facts, profile_facts, definition_facts, defines_class, name_facts, is_name_by, dynamic_facts, class_facts, is_superior_in, is_there, users_place, classes_place, later_facts, facts};
 ghost use Rattle.database_image.specs.Ways.{IsIndexOf, AreReached};
 
 use crate::cycles::cycles;
 use crate::index::{index_of, is_there};
 use crate::widths::{class_width, profile_width, user_width, users_width};
 use access_levels::Id;
+use generic_names::{Pattern, first_qualifier};
 use indexmap::{IndexMap, IndexSet};
-use racf_profiles::{ClassRow, Connect, Group, NoMemory, Profile, Rows, User};
+use racf_profiles::{
+    ClassFacts, ClassRow, Connect, FixedClass, Group, NameForm, NoMemory, Profile, Rows, User,
+    View, facts_in, general_name,
+};
 use std::alloc::Global;
 
 /// The place of the first fact that doesn't hold.
@@ -274,15 +282,158 @@ fn of_classes(rows: &Rows, classes: &[ClassRow], place: usize) -> Option<usize>
     None
 }
 
-/// The place of the first of a class's facts: those of the profiles of GLOBAL.
+/// The place of the first of a class's facts: those of the profiles of GLOBAL and CDT, and those of a dynamic class.
 fn of_class(rows: &Rows, class: &ClassRow, place: usize) -> Option<usize>
     requires { place + class_width class.now < 2 ^ 64 }
     ensures { result ≡ first_broken (class_facts rows.now place class.now) }
 {
+    let profiles = class.profiles.items.as_slice();
     if class.name.text() == b"GLOBAL".as_slice() {
-        of_profiles(rows, &class.profiles.items, place + 14)
-    } else {
+        of_profiles(rows, profiles, place + 14)
+    } else if class.name.text() == b"CDT".as_slice() {
+        of_definitions(rows, profiles, place + 14)
+    } else if is_fixed(class.name) {
         None
+    } else {
+        of_dynamic(rows, class, place)
+    }
+}
+
+/// Whether the name is that of a fixed class.
+fn is_fixed(name: Id) -> bool
+    ensures { result ≡ is_fixed name }
+{
+    FixedClass::of(name).is_some()
+}
+
+/// The place of the first of these profiles of CDT, from this place on, whose name is no dynamic class's.
+fn of_definitions(rows: &Rows, profiles: &[Profile], place: usize) -> Option<usize>
+    requires { place + sum_by profile_width profiles.now < 2 ^ 64 }
+    ensures { result ≡ first_broken (told_of_each profile_width (definition_facts rows.now) place profiles.now) }
+{
+    let mut at = place;
+    for profile in profiles {
+        if !defines_class(rows, profile.name.text()) {
+            return Some(at + 2);
+        }
+        at += profile_width(profile);
+    }
+    None
+}
+
+/// Whether there is a dynamic class of that name.
+fn defines_class(rows: &Rows, name: &[u8]) -> bool
+    ensures { result ≡ defines_class rows.now name.now }
+{
+    !is_fixed_text(name) && has_class(rows, name)
+}
+
+/// Whether the text is the name of a fixed class.
+fn is_fixed_text(name: &[u8]) -> bool
+    ensures { result ≡ is_fixed name.now }
+{
+    fixed_class_of(name).is_some()
+}
+
+/// The fixed class whose name the text is.
+fn fixed_class_of(name: &[u8]) -> Option<FixedClass>
+    ensures { result ≡ fixed_class name.now }
+{
+    FixedClass::ALL
+        .iter()
+        .copied()
+        .find(|class| class.name() == name)
+}
+
+/// The place of the first of a dynamic class's facts.
+fn of_dynamic(rows: &Rows, class: &ClassRow, place: usize) -> Option<usize>
+    requires { place + class_width class.now < 2 ^ 64 }
+    ensures { result ≡ first_broken (dynamic_facts rows.now place class.now) }
+{
+    if is_defined(rows, class) {
+        let facts = facts_of(rows, class);
+        of_names(rows, facts, class.profiles.items.as_slice(), place + 14)
+    } else {
+        Some(place)
+    }
+}
+
+/// Whether the class has its profile in CDT.
+fn is_defined(rows: &Rows, class: &ClassRow) -> bool
+    ensures { result ≡ is_some (profile_of cdt (general class.now.name) rows.now) }
+{
+    let name = Pattern::discrete(&general_name(class.name));
+    rows.profile(FixedClass::Cdt.id(), &name).is_some()
+}
+
+/// What the class allows.
+fn facts_of(rows: &Rows, class: &ClassRow) -> Option<ClassFacts>
+    ensures { result ≡ facts_in_rows class.now.name rows.now }
+{
+    facts_in(rows, class.name)
+}
+
+/// The place of the first of these profiles of a class that allows this, from this place on, whose name it doesn't
+/// allow.
+fn of_names(
+    rows: &Rows,
+    facts: Option<ClassFacts>,
+    profiles: &[Profile],
+    place: usize,
+) -> Option<usize>
+    requires { place + sum_by profile_width profiles.now < 2 ^ 64 }
+    ensures { result ≡ first_broken (told_of_each profile_width (name_facts rows.now facts) place profiles.now) }
+{
+    let mut at = place;
+    for profile in profiles {
+        if !is_name_by(rows, facts, &profile.name) {
+            return Some(at + 2);
+        }
+        at += profile_width(profile);
+    }
+    None
+}
+
+/// Whether a class that allows this has the name.
+fn is_name_by(rows: &Rows, facts: Option<ClassFacts>, name: &Pattern) -> bool
+    ensures { result ≡ is_name_by rows.now facts name.now }
+{
+    match facts {
+        Some(facts) => is_profile_name(rows, name, facts),
+        None => false,
+    }
+}
+
+/// Whether a profile of a class that allows this may have the name.
+fn is_profile_name(rows: &Rows, name: &Pattern, facts: ClassFacts) -> bool
+    ensures { result ≡ is_profile_name rows.now name.now facts }
+{
+    is_named_by(rows, facts.names, name.text())
+        && is_short(facts, name.text())
+        && (!name.is_generic() || facts.generic)
+}
+
+/// Whether a name has at most the bytes that its class allows.
+fn is_short(facts: ClassFacts, text: &[u8]) -> bool
+    ensures { result ≡ is_short facts text.now }
+{
+    match facts.longest {
+        Some(longest) => text.len() <= usize::from(longest),
+        None => true,
+    }
+}
+
+/// Whether a text is a name of this form.
+fn is_named_by(rows: &Rows, names: NameForm, text: &[u8]) -> bool
+    ensures { result ≡ lawful_names.is_named_by names rows.now text.now }
+{
+    match names {
+        NameForm::DataSet => Id::read(first_qualifier(text)).is_ok(),
+        NameForm::General => true,
+        NameForm::LevelOrCategory => text == b"SECLEVEL".as_slice()
+            || text == b"CATEGORY".as_slice(),
+        NameForm::Identifier => Id::read(text).is_ok(),
+        NameForm::Class => has_class(rows, text),
     }
 }
 

@@ -1,16 +1,17 @@
 //! Classes and the whole image, read.
-ghost use Rattle.std.specs.Prelude.{◌≡◌, ◌≤◌, ◌+◌, ◌==◌, false, [], length, IfOk};
-ghost use Rattle.std.specs.List.{sum_by};
-ghost use Rattle.std.specs.Option.{option_map_or};
+ghost use Rattle.std.specs.Prelude.{◌≡◌, ◌≤◌, ◌+◌, true, nat_lt, [], length, map, Some, bytes_eq, IfOk};
+ghost use Rattle.std.specs.List.{list_any, slice_get, sum_by};
+ghost use Rattle.std.specs.Option.{option_eq, option_map_or};
 ghost use Rattle.racf_profiles.specs.declared.fixed_classes.ClassFacts.{ClassFacts};
 ghost use Rattle.racf_profiles.specs.declared.class_rows.ClassRow.{ClassRow};
 ghost use Rattle.racf_profiles.specs.Limits.{most_profiles, most_class_profiles, most_entries_in_all};
 ghost use Rattle.racf_profiles.specs.Counts.{profile_count, entry_count, entries_in};
-ghost use Rattle.racf_profiles.specs.ClassTable.{fixed_classes, facts_of};
+ghost use Rattle.racf_profiles.specs.ClassTable.{class_name, fixed_classes, facts_of};
+ghost use Rattle.racf_profiles.specs.LawfulProfiles.{names_of};
 ghost use Rattle.database_image.specs.Reading.{Gives};
 ghost use Rattle.database_image.specs.Forms.{items_from, listed, number};
-ghost use Rattle.database_image.specs.Fields.{is_set, id};
-ghost use Rattle.database_image.specs.Description.{within, are_class_flags, is_class_at, class, image, profile};
+ghost use Rattle.database_image.specs.Fields.{is_set, is_new, id};
+ghost use Rattle.database_image.specs.Description.{within, are_class_flags, is_class_at, is_read_count, class, read_image, profile};
 
 use crate::faults::ReadFault;
 use crate::fields::{byte_at, id_at, is_set, log_at, short_at, word_at};
@@ -27,9 +28,9 @@ const MOST_CLASS_PROFILES: u32 = 50_000;
 const MOST_PROFILES: usize = 100_000;
 
 /// The rows of an image.
-#[tactic(auto, unfolding(crate::specs::Description::image))]
+#[tactic(auto, unfolding(crate::specs::Description::image_by))]
 pub fn rows_at(alloc: Global, left: &mut Left<'_>) -> Result<Rows, ReadFault>
-    ensures { Gives (λ x. (x, left.new)) result (image.reading left.old) }
+    ensures { Gives (λ x. (x, left.new)) result (read_image.reading left.old) }
 {
     let options = options_at(alloc, left)?;
     let groups = groups_at(alloc, left)?;
@@ -46,13 +47,20 @@ pub fn rows_at(alloc: Global, left: &mut Left<'_>) -> Result<Rows, ReadFault>
 /// The classes.
 fn classes_at(alloc: Global, categories: &[Id], left: &mut Left<'_>) -> Result<ClassRows, ReadFault>
     requires { length categories.now ≤ 256 }
-    ensures { Gives (λ x. (x, left.new)) result ((listed 2 (λ count. count == length fixed_classes) (class categories.now)).reading left.old) }
+    ensures { Gives (λ x. (x, left.new)) result ((listed 2 is_read_count (class categories.now)).reading left.old) }
 {
     let begin = left.len();
     let count = short_at(left)?;
-    require(count == 14, begin)?;
+    require(is_read_count(count), begin)?;
     let items = classes_from(alloc, categories, u32::from(count), left)?;
     Ok(ClassRows { items })
+}
+
+/// Whether an image may have so many classes: the fixed ones and at most 32 more, or those without CDT.
+fn is_read_count(count: u16) -> bool
+    ensures { result ≡ is_read_count count }
+{
+    count == 14 || (15 <= count && count <= 47)
 }
 
 /// So many classes.
@@ -115,7 +123,7 @@ fn next_class(
     ensures few_profiles { IfOk result (λ x. profiles + length x.profiles ≤ most_profiles) }
     ensures few_entries { IfOk result (λ x. entries + sum_by entries_in x.profiles ≤ most_entries_in_all) }
 {
-    let name = class_name_at(before.len(), left)?;
+    let name = class_name_at(before, left)?;
     let begin = left.len();
     let flags = byte_at(left)?;
     require(are_class_flags(name, flags), begin)?;
@@ -131,24 +139,63 @@ fn next_class(
     })
 }
 
-/// The name of the class at that place.
-fn class_name_at(place: usize, left: &mut Left<'_>) -> Result<Id, ReadFault>
-    ensures { Gives (λ x. (x, left.new)) result ((id (is_class_at place)).reading left.old) }
+/// The name of the class behind others.
+fn class_name_at(before: &[ClassRow], left: &mut Left<'_>) -> Result<Id, ReadFault>
+    ensures { Gives (λ x. (x, left.new)) result ((id (is_class_at (names_of before.now))).reading left.old) }
 {
     let begin = left.len();
     let name = id_at(left)?;
-    require(is_class_at(place, name), begin)?;
+    require(is_class_at(before, name), begin)?;
     Ok(name)
 }
 
-/// Whether the class at that place has the name.
-fn is_class_at(place: usize, name: Id) -> bool
-    ensures { result ≡ is_class_at place name }
+/// Whether the class behind others has the name.
+fn is_class_at(before: &[ClassRow], name: Id) -> bool
+    ensures { result ≡ is_class_at (names_of before.now) name }
 {
-    match FixedClass::ALL.get(place) {
+    if are_first(before) {
+        is_fixed_at(before.len(), name)
+    } else {
+        is_new(before, name)
+    }
+}
+
+/// Whether fixed classes are behind these.
+fn are_first(before: &[ClassRow]) -> bool
+    ensures { result ≡ nat_lt (length before.now) 15 }
+{
+    before.len() < FixedClass::ALL.len()
+}
+
+/// Whether the fixed class at that place has the name.
+fn is_fixed_at(place: usize, name: Id) -> bool
+    ensures { result ≡ option_eq bytes_eq (slice_get (map class_name fixed_classes) place) (Some name) }
+{
+    match fixed_class_at(place) {
         Some(class) => class.name() == name.text(),
         None => false,
     }
+}
+
+/// The fixed class at that place.
+fn fixed_class_at(place: usize) -> Option<FixedClass>
+    ensures { result ≡ slice_get fixed_classes place }
+{
+    FixedClass::ALL.get(place).copied()
+}
+
+/// Whether none of the classes has the name.
+fn is_new(before: &[ClassRow], name: Id) -> bool
+    ensures { result ≡ is_new (names_of before.now) name }
+{
+    !is_among(before, name)
+}
+
+/// Whether one of the classes has the name.
+fn is_among(classes: &[ClassRow], name: Id) -> bool
+    ensures { result ≡ list_any (λ (class : ClassRow). bytes_eq name class.name) classes.now }
+{
+    classes.iter().any(|class| name == class.name)
 }
 
 /// Whether a class of that name may have the flags.
@@ -160,13 +207,13 @@ fn are_class_flags(name: Id, flags: u8) -> bool
         && (!is_set(flags, 2) || is_raclist(name))
 }
 
-/// Whether the class of that name may be RACLISTed.
+/// Whether the class of that name may be RACLISTed, as dynamic ones may.
 fn is_raclist(name: Id) -> bool
-    ensures { result ≡ option_map_or (λ (facts : ClassFacts). facts.raclist) (facts_of name) false }
+    ensures { result ≡ option_map_or (λ (facts : ClassFacts). facts.raclist) (facts_of name) true }
 {
     match class_facts(name) {
         Some(facts) => facts.raclist,
-        None => false,
+        None => true,
     }
 }
 

@@ -4,21 +4,22 @@ ghost use Rattle.racf_profiles.specs.declared.rows.Rows.{Rows};
 ghost use Rattle.racf_profiles.specs.Lawful.{AreLawful};
 ghost use Rattle.database_image.specs.Reading.{AreBytes};
 ghost use Rattle.database_image.specs.Description.{image};
-ghost use Rattle.database_image.specs.Image.{image_of, first_pass, rows_of, IsStored, FirstUnlawful};
+ghost use Rattle.database_image.specs.Image.{AreImageOf, image_of, first_pass, rows_of, IsStored, FirstUnlawful};
 ghost use Rattle.database_image.specs.Spelled.{AreSpelled};
 
-/// What the first pass reads is lawful field by field, and the bytes are its image; and rows whose fields are lawful
-/// are read again from their image.
+/// What the first pass reads is lawful field by field, and the bytes are its image, which may be one of before there was
+/// the class CDT; and rows whose fields are lawful are read again from their image.
 pub fn fields_are_of_rows()
-    ensures found { (bytes : List ℕ) (rows : Rows) → AreBytes bytes → first_pass bytes ≡ Ok rows → image.Fits rows × (bytes ≡ image_of rows) }
+    ensures found { (bytes : List ℕ) (rows : Rows) → AreBytes bytes → first_pass bytes ≡ Ok rows → image.Fits rows × AreImageOf bytes rows }
     ensures only { (rows : Rows) → image.Fits rows → first_pass (image_of rows) ≡ Ok rows }
 {}
 
 /// The same of both passes: what bytes are read as is what an image may hold, and they are its image; and what an image
-/// may hold is read again from it.
+/// may hold is read again from its own image.
 pub fn images_are_of_rows()
-    ensures found { (bytes : List ℕ) (rows : Rows) → AreBytes bytes → rows_of bytes ≡ Ok rows → IsStored rows × (bytes ≡ image_of rows) }
+    ensures found { (bytes : List ℕ) (rows : Rows) → AreBytes bytes → rows_of bytes ≡ Ok rows → IsStored rows × AreImageOf bytes rows }
     ensures only { (rows : Rows) → IsStored rows → rows_of (image_of rows) ≡ Ok rows }
+    ensures own { (rows : Rows) → IsStored rows → AreImageOf (image_of rows) rows }
 {}
 
 /// What an image may hold is lawful, so that a database may be made of what `read` gives. No image holds listed copies,

@@ -16,7 +16,7 @@
 //!
 //! ```
 //! let rows = Rows::new_database(alloc)?;
-//! let image = write(alloc, &rows)?;           // 313 bytes
+//! let image = write(alloc, &rows)?;           // 327 bytes
 //! let again = read(alloc, &image)?;           // the same rows
 //! let fault = read(alloc, &[8]);              // Err(ImageFault::BadField(0)): there is no such option
 //! let copy = stored_copy(alloc, &rows)?;      // the same rows

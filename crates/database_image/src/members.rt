@@ -8,17 +8,17 @@ ghost use Rattle.racf_profiles.specs.LawfulProfiles.{kind_in, member_name};
 ghost use Rattle.racf_profiles.specs.declared.profiles.Member.{Member};
 ghost use Rattle.database_image.specs.Reading.{Gives};
 ghost use Rattle.database_image.specs.Forms.{spelled_at, items_from, listed};
-ghost use Rattle.database_image.specs.Fields.{at_most, id, is_new, text_spelling};
-ghost use Rattle.database_image.specs.Description.{text, spelled_text, member_in, is_kind_in, is_new_member, access_member, level_member, category_member, member_of_kind, member};
+ghost use Rattle.database_image.specs.Fields.{id, is_new, text_spelling};
+ghost use Rattle.database_image.specs.Description.{text, spelled_text, member_in, is_kind_in, is_member_count, is_new_member, access_member, level_member, category_member, traits_member, member_of_kind, member};
 
 use crate::faults::ReadFault;
-use crate::fields::{byte_at, id_at, level_at, short_at};
+use crate::fields::{byte_at, id_at, is_set, level_at, short_at};
 use crate::left::{Left, require};
 use crate::names::Names;
 use crate::profiles::longest;
 use access_levels::Id;
 use generic_names::{MemberName, Pattern};
-use racf_profiles::{Member, Members, kind_of_class};
+use racf_profiles::{ClassTraits, Member, Members, kind_of_class};
 use std::alloc::Global;
 
 /// The most members of a profile.
@@ -32,11 +32,11 @@ pub fn members_at(
     profile: &Pattern,
     left: &mut Left<'_>,
 ) -> Result<Members, ReadFault>
-    ensures { Gives (λ x. (x, left.new)) result ((listed 2 (at_most most_members) (member categories.now class profile.now.text)).reading left.old) }
+    ensures { Gives (λ x. (x, left.new)) result ((listed 2 (is_member_count class) (member categories.now class profile.now.text)).reading left.old) }
 {
     let begin = left.len();
     let count = short_at(left)?;
-    require(count <= MOST_MEMBERS, begin)?;
+    require(is_member_count(class, count), begin)?;
     let items = members_from(
         alloc,
         categories,
@@ -46,6 +46,17 @@ pub fn members_at(
         left,
     )?;
     Ok(Members { items })
+}
+
+/// Whether a profile of the class may have so many members.
+fn is_member_count(class: Id, count: u16) -> bool
+    ensures { result ≡ is_member_count class count }
+{
+    if class.text() == b"CDT".as_slice() {
+        count == 1
+    } else {
+        count <= MOST_MEMBERS
+    }
 }
 
 /// So many members.
@@ -88,7 +99,8 @@ fn next_member(
     match kind {
         1 => access_member(profile, before, names, left),
         2 => level_member(before, names, left),
-        _ => category_member(categories, before, names, left),
+        3 => category_member(categories, before, names, left),
+        _ => traits_member(before, names, left),
     }
 }
 
@@ -100,6 +112,7 @@ fn is_kind_in(class: Id, profile: &[u8], kind: u8) -> bool
     (kind == 1 && name == b"GLOBAL".as_slice())
         || (kind == 2 && name == b"SECDATA".as_slice() && profile == b"SECLEVEL".as_slice())
         || (kind == 3 && name == b"SECDATA".as_slice() && profile == b"CATEGORY".as_slice())
+        || (kind == 4 && name == b"CDT".as_slice())
 }
 
 /// Resources, and the access that everyone has to them.
@@ -196,6 +209,31 @@ fn category_member(
     let new = names.note(name.text())?;
     require(new && is_among(categories, name), begin)?;
     Ok(Member::Category(name))
+}
+
+/// The traits of a class, which stand alone.
+fn traits_member(
+    before: &[Member],
+    names: &mut Names,
+    left: &mut Left<'_>,
+) -> Result<Member, ReadFault>
+    requires { names.old ≡ map member_name before.now }
+    ensures reads { Gives (λ x. (x, left.new)) result ((traits_member before.now).reading left.old) }
+    ensures noted { IfOk result (λ x. names.new ≡ names.old ++ member_name x ∷ []) }
+{
+    let _before = before;
+    let begin = left.len();
+    let flags = byte_at(left)?;
+    let new = names.note(b"".as_slice())?;
+    require(flags < 4 && new, begin)?;
+    let begin = left.len();
+    let longest = byte_at(left)?;
+    require(1 <= longest && longest <= 246, begin)?;
+    Ok(Member::Traits(ClassTraits {
+        operations: is_set(flags, 1),
+        ids: is_set(flags, 2),
+        longest,
+    }))
 }
 
 /// Whether the category is one of these.

@@ -4,7 +4,7 @@ ghost use Rattle.std.specs.List.{sum_by};
 ghost use Rattle.access_levels.specs.Category.{is_member};
 ghost use Rattle.racf_profiles.specs.LawfulProfiles.{is_of_kind, is_logged_level};
 ghost use Rattle.database_image.specs.Facts.{told, told_of_each, first_broken, user_width, member_width, profile_width, class_width, classes_place};
-ghost use Rattle.database_image.specs.Misleading.{has_room, is_of_bytes, user_marks, member_marks, audit_marks, list_marks, profile_marks, class_marks, marks};
+ghost use Rattle.database_image.specs.Misleading.{has_room, tells_classes, is_of_bytes, user_marks, member_marks, audit_marks, list_marks, profile_marks, class_marks, marks};
 
 use crate::widths::{class_width, member_width, profile_width, user_width, users_width};
 use access_levels::{Categories, Level};
@@ -27,7 +27,7 @@ pub fn first_misleading(rows: &Rows) -> Option<usize>
         .or(unless(has_word(groups), 3 + 8 * categories))
         .or(unless(has_word(rows.users.items.len()), users))
         .or(of_users(&rows.users.items, users + 4))
-        .or(unless(has_short(rows.classes.items.len()), classes))
+        .or(unless(tells_classes(rows.classes.items.len()), classes))
         .or(of_classes(&rows.classes.items, classes + 2))
 }
 
@@ -50,6 +50,13 @@ fn has_short(count: usize) -> bool
     ensures { result ≡ has_room 2 count }
 {
     count < 0x1_0000
+}
+
+/// Whether a count of classes is read as itself: two bytes have room for it, and CDT is among them.
+fn tells_classes(count: usize) -> bool
+    ensures { result ≡ tells_classes count }
+{
+    has_short(count) && count != 14
 }
 
 /// Whether four bytes have room for a count.
@@ -192,7 +199,7 @@ fn of_member(kind: NameKind, member: &Member, place: usize) -> Option<usize>
 {
     match member {
         Member::Access(name, _) => unless(is_of_kind(kind, name.kind()), place + 3),
-        Member::SecurityLevel(_, _) | Member::Category(_) => None,
+        Member::SecurityLevel(_, _) | Member::Category(_) | Member::Traits(_) => None,
     }
 }
 

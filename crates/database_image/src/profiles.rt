@@ -160,7 +160,7 @@ fn is_pattern_at(class: Id, before: &[Profile], name: &Pattern) -> bool
 {
     match class_facts(class) {
         Some(facts) => is_name_in(facts, name) && comes_behind(before, name),
-        None => false,
+        None => comes_behind(before, name),
     }
 }
 

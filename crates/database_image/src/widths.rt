@@ -77,5 +77,6 @@ pub fn member_width(member: &Member) -> usize
         Member::Access(name, _) => 4 + name.text().len(),
         Member::SecurityLevel(_, _) => 10,
         Member::Category(_) => 9,
+        Member::Traits(_) => 3,
     }
 }

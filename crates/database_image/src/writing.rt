@@ -30,7 +30,7 @@ use std::alloc::Global;
 /// # Errors
 ///
 /// `NoMemory` alone.
-#[tactic(auto, unfolding(crate::specs::Image::image_of, crate::specs::Description::image))]
+#[tactic(auto, unfolding(crate::specs::Image::image_of, crate::specs::Description::image_by))]
 pub fn write(alloc: Global, rows: &Rows) -> Result<Vec<u8>, NoMemory>
     // The bytes are the image.
     ensures image { IfOk result (λ bytes. bytes.items ≡ image_of rows.now) }
@@ -379,6 +379,12 @@ fn put_member(out: &mut Vec<u8>, row: &Member) -> Result<(), NoMemory>
         Member::Category(name) => {
             out.push(3)?;
             put_id(out, name)?;
+            Ok(())
+        }
+        Member::Traits(traits) => {
+            out.push(4)?;
+            out.push(bit(1, traits.operations) + bit(2, traits.ids))?;
+            out.push(traits.longest)?;
             Ok(())
         }
     }

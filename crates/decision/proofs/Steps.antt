@@ -20,7 +20,7 @@ use Rattle.acee.specs.declared.acee.Acee.{Acee}
 use Rattle.decision.specs.declared.answer.Answer.{Answer}
 use Rattle.decision.specs.declared.outcome.Rule.TheVariants as rule
 use Rattle.generic_names.specs.Spelled.{first_qualifier}
-use Rattle.racf_profiles.specs.ClassTable.{allows_operations}
+use Rattle.racf_profiles.specs.DynamicClasses.{allows_operations}
 use Rattle.decision.specs.Table.{case, with, first_answer, else_case, higher, considered, is_dataset, operating_over, standing_of, answer_with_profile, user_entry, group_entry, star_entry}
 use Rattle.decision.specs.Steps.{listed, is_open, uacc_case, entry_case, standing_with, operations_cases, conditional_case}
 
@@ -131,7 +131,7 @@ module _ (rows : Rows) (acee : Acee) (class : List ℕ) (name : Spelled) (asked 
   own_case = is_dataset class && bytes_eq (first_qualifier name.text) acee.user
 
   abbrev pub operations_answer : Found → Level → List ℕ → Option Answer
-  operations_answer found uacc owner = first_answer (operations_cases (allows_operations class && is_open found) acee.attributes.operations (operating_over rows acee owner) (standing_with found acee.attributes.restricted uacc))
+  operations_answer found uacc owner = first_answer (operations_cases (allows_operations class rows && is_open found) acee.attributes.operations (operating_over rows acee owner) (standing_with found acee.attributes.restricted uacc))
 
   abbrev pub told : Options → Found → Level → List CondEntry → List ℕ → Bool → Answer
   told options found uacc conditional owner warning =
@@ -152,15 +152,15 @@ module _ (rows : Rows) (acee : Acee) (class : List ℕ) (name : Spelled) (asked 
       (with star (λ entry. case (free && not r && suffices entry.level asked) rule.Star 0 entry.level))
       (case (free && not r && suffices p.uacc asked) rule.Uacc 0 p.uacc)
       (conditional_case rows.options acee p.conditional asked)
-      (case (allows_operations class && free && acee.attributes.operations) rule.Operations 0 st)
-      (with (operating_over rows acee p.owner) (λ group. case (allows_operations class && free) (rule.GroupOperations group) 0 st))
+      (case (allows_operations class rows && free && acee.attributes.operations) rule.Operations 0 st)
+      (with (operating_over rows acee p.owner) (λ group. case (allows_operations class rows && free) (rule.GroupOperations group) 0 st))
       (case p.warning rule.Warning 0 st)
       (else_case rule.Insufficient 8 st)
-      ∙ ap (λ e. stepped own_case e (conditional_case rows.options acee p.conditional asked) (first_answer (operations_cases (allows_operations class && free) acee.attributes.operations (operating_over rows acee p.owner) st)) p.warning st)
+      ∙ ap (λ e. stepped own_case e (conditional_case rows.options acee p.conditional asked) (first_answer (operations_cases (allows_operations class rows && free) acee.attributes.operations (operating_over rows acee p.owner) st)) p.warning st)
       (by_found r p.uacc asked own group star (no_star acee p.standard))
-      ∙ ap (λ s. stepped own_case (entry_case found r p.uacc asked) (conditional_case rows.options acee p.conditional asked) (first_answer (operations_cases (allows_operations class && free) acee.attributes.operations (operating_over rows acee p.owner) s)) p.warning s)
+      ∙ ap (λ s. stepped own_case (entry_case found r p.uacc asked) (conditional_case rows.options acee p.conditional asked) (first_answer (operations_cases (allows_operations class rows && free) acee.attributes.operations (operating_over rows acee p.owner) s)) p.warning s)
       (standing-found r p.uacc asked own group star)
-      ∙ ap (λ f. stepped own_case (entry_case found r p.uacc asked) (conditional_case rows.options acee p.conditional asked) (first_answer (operations_cases (allows_operations class && f) acee.attributes.operations (operating_over rows acee p.owner) (standing_with found r p.uacc))) p.warning (standing_with found r p.uacc))
+      ∙ ap (λ f. stepped own_case (entry_case found r p.uacc asked) (conditional_case rows.options acee p.conditional asked) (first_answer (operations_cases (allows_operations class rows && f) acee.attributes.operations (operating_over rows acee p.owner) (standing_with found r p.uacc))) p.warning (standing_with found r p.uacc))
       (neither-found r p.uacc asked own group star)
 
   pub by_facts : (p : Profile) (facts : Facts) → AreFacts p facts → (options : Options) → options ≡ rows.options → (found : Found) → found ≡ lists.answered acee.user (considered options acee) acee.attributes.restricted facts.standard.now

@@ -1,5 +1,5 @@
 -- Decisions that the table gives, worked out: each case once, and neighbours where both would fit.
-use Rattle.std.proofs.Common.{◌≡◌, ℕ, Bool, true, false, List, [], ◌∷◌, Some, None, map, refl}
+use Rattle.std.proofs.Common.{◌≡◌, ℕ, Bool, true, false, List, [], ◌∷◌, ◌++◌, Some, None, map, refl}
 use Rattle.std.specs.Prelude.{codes, if◌then◌else◌}
 use Rattle.access_levels.specs.declared.levels.Level.{Level}
 use Rattle.access_levels.specs.declared.levels.Level.TheVariants.{NoAccess, Execute, Read, Update, Alter}
@@ -12,12 +12,14 @@ use Rattle.generic_names.specs.Spelled.{Spelled}
 use Rattle.generic_names.specs.declared.kind.NameKind.TheVariants.{DataSet, General}
 use Rattle.racf_profiles.specs.declared.profiles.Profile.{Profile}
 use Rattle.racf_profiles.specs.declared.profiles.Member.{Member}
-use Rattle.racf_profiles.specs.declared.profiles.Member.TheVariants.{Access}
+use Rattle.racf_profiles.specs.declared.profiles.Member.TheVariants.{Access, Traits}
 use Rattle.racf_profiles.specs.declared.groups.Group.{Group}
 use Rattle.racf_profiles.specs.declared.options.Options.{Options}
 use Rattle.racf_profiles.specs.declared.class_rows.ClassRow.{ClassRow}
 use Rattle.racf_profiles.specs.declared.rows.Rows.{Rows}
 use Rattle.racf_profiles.specs.NewDatabase.{ibmuser, sys1, new_database, no_options}
+use Rattle.racf_profiles.specs.DynamicClasses.{cdt}
+use Rattle.racf_profiles.specs.Edits.{added_class}
 use Rattle.racf_profiles.specs.Lookup.{is_class}
 use Rattle.racf_profiles.specs.State.{State, restart}
 use Rattle.global_table.specs.Grants.{granted}
@@ -277,6 +279,23 @@ operations = refl
 operations-class : told (decided (restart (with_profiles (codes "FACILITY") (profile x [] NoAccess ∷ []) no_options)) 7 operator (codes "FACILITY") x Read) ≡ (rule.Insufficient, 8, NoAccess)
 unfolding decided classified granted
 operations-class = refl
+
+-- In a dynamic class it counts where the class's profile in CDT says so.
+abbrev defines : Bool → Profile
+defines operations = record (profile (record { kind = General; text = codes "APPX" }) [] NoAccess) { members = Traits record { operations = operations; ids = false; longest = 7 } ∷ [] }
+
+abbrev dynamic : Bool → Rows
+dynamic operations = record (with_profiles cdt (defines operations ∷ []) no_options) {
+  classes = (with_profiles cdt (defines operations ∷ []) no_options).classes ++ record (added_class (codes "APPX")) { active = true; profiles = profile x [] NoAccess ∷ [] } ∷ [];
+}
+
+operations-dynamic : told (decided (restart (dynamic true)) 7 operator (codes "APPX") x Read) ≡ (rule.Operations, 0, NoAccess)
+unfolding decided classified granted
+operations-dynamic = refl
+
+operations-dynamic_without : told (decided (restart (dynamic false)) 7 operator (codes "APPX") x Read) ≡ (rule.Insufficient, 8, NoAccess)
+unfolding decided classified granted
+operations-dynamic_without = refl
 
 -- 14: group-OPERATIONS in a considered group in whose scope the owner is.
 abbrev owned_by : List ℕ → Bool → Profile

@@ -15,7 +15,7 @@ use Rattle.racf_profiles.specs.declared.class_rows.ClassRow.{ClassRow}
 use Rattle.racf_profiles.specs.declared.options.Options.{Options}
 use Rattle.racf_profiles.specs.declared.rows.Rows.{Rows}
 use Rattle.racf_profiles.specs.Lookup.{class_of}
-use Rattle.racf_profiles.specs.ClassTable.{allows_operations}
+use Rattle.racf_profiles.specs.DynamicClasses.{allows_operations}
 use Rattle.racf_profiles.specs.State.{State, is_listed}
 use Rattle.global_table.specs.declared.table.Grant.{Grant}
 use Rattle.global_table.specs.Grants.{granted}
@@ -163,10 +163,10 @@ module _ (bar : Option Classified) (rows : Rows) (acee : Acee) (class : List ℕ
       -- 12 CONDITIONAL: the entry of the conditional list under the ACEE's port that counts for the user suffices
       ∷ with (conditional_entry rows.options acee p) (λ entry. case (suffices entry.level asked) (rule.Conditional entry.condition) 0 entry.level)
       -- 13 OPERATIONS: the class allows OPERATIONS, neither entry exists, the ACEE has OPERATIONS
-      ∷ case (allows_operations class && has_neither && acee.attributes.operations) rule.Operations 0 (standing rows.options acee p)
+      ∷ case (allows_operations class rows && has_neither && acee.attributes.operations) rule.Operations 0 (standing rows.options acee p)
       -- 14 GROUPOPS: the class allows OPERATIONS, neither entry exists, a considered group (the first) has
       -- group-OPERATIONS and p is in scope of it
-      ∷ with (operating_over rows acee p.owner) (λ group. case (allows_operations class && has_neither) (rule.GroupOperations group) 0 (standing rows.options acee p))
+      ∷ with (operating_over rows acee p.owner) (λ group. case (allows_operations class rows && has_neither) (rule.GroupOperations group) 0 (standing rows.options acee p))
       -- 15 WARNING: p has WARNING
       ∷ case p.warning rule.Warning 0 (standing rows.options acee p)
       ∷ []

@@ -2,7 +2,7 @@
 ghost use Rattle.std.specs.Prelude.{◌≡◌, ◌&&◌, ◌↔◌, ℕ, not, List, None, IsTrue, bytes_eq, unwrap_or, codes};
 ghost use Rattle.acee.specs.Verify.{is_active};
 ghost use Rattle.generic_names.specs.Spelled.{first_qualifier};
-ghost use Rattle.racf_profiles.specs.ClassTable.{allows_operations};
+ghost use Rattle.racf_profiles.specs.DynamicClasses.{allows_operations};
 ghost use Rattle.racf_profiles.specs.declared.profiles.Profile.{Profile};
 ghost use Rattle.racf_profiles.specs.Scope.{InScopeProfile};
 ghost use Rattle.group_tree.specs.ScopeTest.{is_profile_in_scope};
@@ -23,7 +23,7 @@ use acee::{Acee, is_active};
 use generic_names::{Resource, first_qualifier};
 use global_table::grants;
 use group_tree::laws::scope_is_tested;
-use racf_profiles::{FixedClass, Options, allows_operations};
+use racf_profiles::{FixedClass, Options};
 use raclist_image::{Facts, Image};
 
 /// Whether the user of the ACEE may have the access that is asked for (z/OS Security Server RACF Security
@@ -90,8 +90,8 @@ fn class_answer(image: &Image, acee: &Acee, request: &Request) -> Option<Answer>
 {
     match image.class(request.class) {
         None => Some(undecided(Rule::NoClass)),
-        Some(flags) if !flags.active => Some(undecided(Rule::ClassOff)),
-        Some(flags) if flags.global => global_answer(image, acee, request),
+        Some(options) if !options.active => Some(undecided(Rule::ClassOff)),
+        Some(options) if options.global => global_answer(image, acee, request),
         Some(_) => None,
     }
 }
@@ -124,8 +124,8 @@ fn listed_class_answer(image: &Image, class: Id) -> Option<Answer>
 {
     match image.class(class) {
         None => Some(undecided(Rule::NoClass)),
-        Some(flags) if !flags.active => Some(undecided(Rule::ClassOff)),
-        Some(flags) if !flags.listed => Some(undecided(Rule::NotListed)),
+        Some(options) if !options.active => Some(undecided(Rule::ClassOff)),
+        Some(options) if !options.listed => Some(undecided(Rule::NotListed)),
         Some(_) => None,
     }
 }
@@ -191,19 +191,20 @@ fn unclassified(image: &Image, acee: &Acee, request: &Request, facts: &Facts<'_>
         return answer;
     }
     let standing = standing(&found, restricted, facts.uacc);
-    let may = may_operate(request.class, &found);
+    let may = may_operate(image, request.class, &found);
     if let Some(answer) = operations_case(image, acee, facts.owner, may, standing) {
         return answer;
     }
     last_case(facts.warning, standing)
 }
 
-/// Whether OPERATIONS may give access: the class allows it, and there is no entry for the user or his groups.
+/// Whether OPERATIONS may give access: the class allows it, and there is no entry for the user or his groups. The image
+/// is asked only where there is none.
 #[inline(always)]
-fn may_operate(class: Id, found: &Found) -> bool
-    ensures { result ≡ (allows_operations class && is_open found.now) }
+fn may_operate(image: &Image, class: Id, found: &Found) -> bool
+    ensures { result ≡ (allows_operations class image.now.state.rows && is_open found.now) }
 {
-    allows_operations(class) && is_open(found)
+    is_open(found) && image.allows_operations(class)
 }
 
 /// The answer where nothing gives access: a profile that only warns gives it then.

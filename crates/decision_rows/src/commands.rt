@@ -38,5 +38,6 @@ fn conflict_word(conflict: &Conflict) -> &'static str {
         Conflict::LastSpecial(_) => "LASTSPECIAL",
         Conflict::UnknownName(_) => "UNKNOWNNAME",
         Conflict::Full(_, _) => "FULL",
+        Conflict::NameNotAllowed(_) => "NAMENOTALLOWED",
     }
 }

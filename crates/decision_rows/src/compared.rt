@@ -95,7 +95,7 @@ fn is_same_scope(one: &Image, other: &Image, top: Id, owners: &[Id]) -> bool {
 
 /// Whether the classes of that name have the same flags and the same profiles.
 fn is_same_class(one: &Image, other: &Image, class: Id) -> bool {
-    one.class(class) == other.class(class)
+    one.class_flags(class) == other.class_flags(class)
         && match (one.effective(class), other.effective(class)) {
             (Some(one), Some(other)) => has_same_profiles(one, other),
             (None, None) => true,

@@ -62,7 +62,7 @@ pub(crate) fn print_group(rt: &impl Print, image: &Image, row: &str) -> Result<(
 /// Prints the flags of the class of that name, and how many profiles it has.
 pub(crate) fn print_class(rt: &impl Print, image: &Image, row: &str) -> Result<()> {
     let class = id(row)?;
-    let (Some(flags), Some(profiles)) = (image.class(class), image.effective(class)) else {
+    let (Some(flags), Some(profiles)) = (image.class_flags(class), image.effective(class)) else {
         return print_none(rt);
     };
     println!(rt; "{flags:?} profiles={}", profiles.len())?;

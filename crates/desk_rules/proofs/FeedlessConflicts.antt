@@ -1,6 +1,7 @@
 -- The words of a command's conflict hold no line feed: each test tells what the command names, or what the rows hold.
 use Rattle.std.proofs.Common.{◌≡◌, ℕ, Bool, true, false, cond, not, ◌&&◌, List, [], ◌∷◌, ◌++◌, Option, None, Some, is_some, refl, subst, length, bytes_eq, codes}
-use Rattle.std.specs.Prelude.{IfSome, find, option_map, option_and_then, decimal}
+use Rattle.std.specs.Prelude.{IfSome, find, option_map, option_and_then, slice_get, decimal}
+use Rattle.std.specs.Option.{option_map_or}
 use Rattle.std.specs.List.{AllByRecursion}
 use Rattle.std.specs.Result.{result_ok}
 use Rattle.std.proofs.lemmas.Option.{IfSome_then}
@@ -24,13 +25,15 @@ use Rattle.command_fields.specs.declared.issuer.Issuer.{Issuer}
 use Rattle.command_fields.specs.declared.fields.AltGroup.{AltGroup}
 use Rattle.command_fields.specs.declared.fields.CommandFields.{CommandFields}
 use Rattle.command_fields.specs.declared.fields.CommandFields.TheVariants as command
+use Rattle.command_fields.specs.declared.profile_fields.RDelete.{RDelete}
 use Rattle.command_fields.specs.declared.profile_fields.Permit.{Permit}
-use Rattle.command_fields.specs.Classes.{cdt}
+use Rattle.racf_profiles.specs.DynamicClasses.{cdt, general}
 use Rattle.command_fields.specs.LawfulFields.{IsClauthWord, AreLawfulFields}
 use Rattle.command_rules.specs.UserEffects.{altered_group, new_group}
+use Rattle.command_rules.specs.ProfileEffects.{deleted_class}
 use Rattle.command_rules.specs.Effects.{step}
 use Rattle.command_rules.specs.declared.conflict.Conflict.{Conflict}
-use Rattle.command_rules.specs.declared.conflict.Conflict.TheVariants.{NoUser, NoGroup, NoProfile, NoClass, Exists, NotConnected, Root, InUse, Cycle, OwnerNotSuperior, NotGeneric, NotListed, ClassFixed, DefaultGroup, LastSpecial, UnknownName, Full}
+use Rattle.command_rules.specs.declared.conflict.Conflict.TheVariants.{NoUser, NoGroup, NoProfile, NoClass, Exists, NotConnected, Root, InUse, Cycle, OwnerNotSuperior, NotGeneric, NotListed, ClassFixed, DefaultGroup, LastSpecial, UnknownName, NameNotAllowed, Full}
 use Rattle.command_rules.specs.declared.conflict.Named.TheVariants as named
 use Rattle.command_rules.specs.declared.conflict.Holder.TheVariants.{Subgroup, Connected, Profile as ProfileOf}
 use Rattle.command_rules.specs.declared.conflict.Limit.{Limit}
@@ -41,6 +44,7 @@ use Rattle.command_rules.specs.Required.{if_met, first_met, over, no_user, no_gr
 use Rattle.command_rules.specs.OptionConflicts.{absent_class, class_without_generic, unlisted_class, always_active_class, never_listed_class, set_ropts_conflicts}
 use Rattle.command_rules.specs.ProfileConflicts.{
   no_first_qualifier,
+  profiles_in,
   named_unknown,
   is_unknown,
   no_permitted,
@@ -66,7 +70,14 @@ use Rattle.command_rules.specs.ProfileConflicts.{
   r_define_requirements,
   r_define_limits,
   r_alter_conflicts,
-  define_class_conflicts,
+  name_not_allowed,
+  class_taken,
+  class_in_use,
+  first_profile,
+  uses_class,
+  classes_full,
+  define_class_requirements,
+  define_class_limits,
   alter_class_conflicts,
   r_delete_conflicts,
   permit_conflicts,
@@ -99,7 +110,7 @@ use Rattle.command_rules.specs.Conflicts.{
 use Rattle.lawful_commands.proofs.FieldFacts.{each-all}
 use Rattle.desk_rules.specs.Words.{kind_words, conflict_words}
 use Rattle.audit_records.specs.Feedless.{IsFeedless, IsFeedlessUser, IsFeedlessGroup, IsFeedlessProfile, IsFeedlessWho, AreFeedlessProfiles, AreFeedless}
-use Rattle.audit_records.proofs.Feedless.{joined, decimal-feedless, read_id-feedless, either, always, if-map, if-then, if-found, if-given, if-ok}
+use Rattle.audit_records.proofs.Feedless.{joined, decimal-feedless, read_id-feedless, either, always, if-either, if-map, if-then, if-found, if-given, if-ok, profile_of-feedless}
 use Rattle.desk_rules.proofs.FeedlessFields.{id-feedless, group-feedless, data_set-feedless, class_profile-feedless, any_profile-feedless}
 use Rattle.desk_rules.proofs.FeedlessRows.{ids-feedless, groups-feedless, names-feedless, logged-feedless, whos-feedless, current-feedless, owner-feedless}
 
@@ -289,9 +300,9 @@ profile_taken-test : (class : List ℕ) (name : Spelled) (rows : Rows) → IsFee
 unfolding profile_taken
 profile_taken-test class name rows h = met _ (Exists (named.Profile name)) h
 
-generic-test : (class : List ℕ) (name : Spelled) → IsFeedless class → IsFeedlessTest (not_generic class name)
+generic-test : (class : List ℕ) (name : Spelled) (rows : Rows) → IsFeedless class → IsFeedlessTest (not_generic class name rows)
 unfolding not_generic
-generic-test class name h = met _ (NotGeneric class) h
+generic-test class name rows h = met _ (NotGeneric class) h
 
 class_profiles-test : (issuer : Issuer) (c : CommandFields) (class : List ℕ) (rows : Rows) → IsFeedlessTest (class_profiles_full issuer c class rows)
 unfolding class_profiles_full
@@ -325,14 +336,48 @@ categories-test : (issuer : Issuer) (c : CommandFields) (rows : Rows) → IsFeed
 unfolding categories_full
 categories-test issuer c rows = over-test _ _ _
 
+-- ---- dynamic classes
+allowed-test : (class : List ℕ) (name : Spelled) (rows : Rows) → IsFeedless class → IsFeedlessTest (name_not_allowed class name rows)
+unfolding name_not_allowed
+allowed-test class name rows h = met _ (NameNotAllowed class) h
+
+class_taken-test : (name : Spelled) (rows : Rows) → IsFeedless name.text → IsFeedlessTest (class_taken name rows)
+unfolding class_taken
+class_taken-test name rows h = met _ (Exists (named.Profile name)) h
+
+classes-test : (issuer : Issuer) (c : CommandFields) (rows : Rows) → IsFeedlessTest (classes_full issuer c rows)
+unfolding classes_full
+classes-test issuer c rows = over-test _ _ _
+
+first-feedless : (profiles : List Profile) → AllByRecursion IsFeedlessProfile profiles → IfSome (slice_get profiles 0) IsFeedlessProfile
+first-feedless [] are = tt
+first-feedless (profile ∷ profiles) are = are.0
+
+profiles_in-feedless : (class : List ℕ) (rows : Rows) → AreFeedless rows → AllByRecursion IsFeedlessProfile (profiles_in class rows)
+profiles_in-feedless class rows are = by (class_of class rows) (if-found AreFeedlessProfiles (is_class class) rows.classes are.classes)
+  where
+    by : (o : Option ClassRow) → IfSome o AreFeedlessProfiles → AllByRecursion IsFeedlessProfile (option_map_or (λ (row : ClassRow). row.profiles) o [])
+    by None h = tt
+    by (Some row) h = h
+
+uses-feedless : (rows : Rows) (class : List ℕ) → AreFeedless rows → IfSome (uses_class rows class) IsFeedlessProfile
+uses-feedless rows class are =
+    if-either IsFeedlessProfile (first_profile class rows) (profile_of (codes "GLOBAL") (general class) rows) (first-feedless (profiles_in class rows) (profiles_in-feedless class rows are)) (profile_of-feedless (codes "GLOBAL") (general class) rows are)
+
+in_use-test : (c : RDelete) (rows : Rows) → AreFeedless rows → IsFeedlessTest (class_in_use c rows)
+unfolding class_in_use
+in_use-test c rows are =
+    mapped IsFeedlessProfile (λ (p : Profile). InUse (ProfileOf p.name)) (λ p h. h.name) (option_and_then (uses_class rows) (deleted_class c))
+    (if-then (λ (class : List ℕ). Unit {0}) IsFeedlessProfile (uses_class rows) (λ class h. uses-feedless rows class are) (deleted_class c) (always (deleted_class c) tt))
+
 -- ---- the classes of SETROPTS
 absent-test : (classes : List (List ℕ)) (rows : Rows) → AllByRecursion IsFeedless classes → IsFeedlessTest (absent_class classes rows)
 unfolding absent_class
 absent-test classes rows h = mapped IsFeedless NoClass (λ name is. is) _ (if-found IsFeedless _ classes h)
 
-without_generic-test : (classes : List (List ℕ)) → AllByRecursion IsFeedless classes → IsFeedlessTest (class_without_generic classes)
+without_generic-test : (classes : List (List ℕ)) (rows : Rows) → AllByRecursion IsFeedless classes → IsFeedlessTest (class_without_generic classes rows)
 unfolding class_without_generic
-without_generic-test classes h = mapped IsFeedless NotGeneric (λ name is. is) _ (if-found IsFeedless _ classes h)
+without_generic-test classes rows h = mapped IsFeedless NotGeneric (λ name is. is) _ (if-found IsFeedless _ classes h)
 
 unlisted-test : (classes : List (List ℕ)) (rows : Rows) → AllByRecursion IsFeedless classes → IsFeedlessTest (unlisted_class classes rows)
 unfolding unlisted_class
@@ -342,9 +387,9 @@ always_active-test : (classes : List (List ℕ)) → AllByRecursion IsFeedless c
 unfolding always_active_class
 always_active-test classes h = mapped IsFeedless ClassFixed (λ name is. is) _ (if-found IsFeedless _ classes h)
 
-never_listed-test : (classes : List (List ℕ)) → AllByRecursion IsFeedless classes → IsFeedlessTest (never_listed_class classes)
+never_listed-test : (classes : List (List ℕ)) (rows : Rows) → AllByRecursion IsFeedless classes → IsFeedlessTest (never_listed_class classes rows)
 unfolding never_listed_class
-never_listed-test classes h = mapped IsFeedless ClassFixed (λ name is. is) _ (if-found IsFeedless _ classes h)
+never_listed-test classes rows h = mapped IsFeedless ClassFixed (λ name is. is) _ (if-found IsFeedless _ classes h)
 
 if-feedless : (b : Bool) (names others : List (List ℕ)) → AllByRecursion IsFeedless names → AllByRecursion IsFeedless others → AllByRecursion IsFeedless (cond b names others)
 if-feedless true names others h k = h
@@ -371,7 +416,7 @@ early-test (Some conflict ∷ list) h = either IsFeedlessTest (is_early conflict
 
 module _ (issuer : Issuer) (issuer_id : IsFeedless issuer.id) (issuer_group : IsFeedless issuer.group) where
   each-test : (c : CommandFields) (rows : Rows) → AreLawfulFields c → AreFeedless rows → AllByRecursion IsFeedlessTest (conflicts issuer c rows)
-  unfolding add_user_conflicts alt_user_conflicts del_user_conflicts add_group_conflicts alt_group_conflicts del_group_conflicts connect_conflicts remove_conflicts add_sd_requirements add_sd_limits alt_sd_conflicts del_sd_conflicts r_define_requirements r_define_limits r_alter_conflicts define_class_conflicts alter_class_conflicts r_delete_conflicts permit_conflicts set_ropts_conflicts
+  unfolding add_user_conflicts alt_user_conflicts del_user_conflicts add_group_conflicts alt_group_conflicts del_group_conflicts connect_conflicts remove_conflicts add_sd_requirements add_sd_limits alt_sd_conflicts del_sd_conflicts r_define_requirements r_define_limits r_alter_conflicts define_class_requirements define_class_limits alter_class_conflicts r_delete_conflicts permit_conflicts set_ropts_conflicts
   each-test (command.AddUser c) rows f are =
       (owner-test _ rows (ids-feedless c.owner f.owner), (group-test _ rows (current-feedless issuer issuer_id issuer_group c.dfltgrp f.dfltgrp), (class-test _ rows (words-feedless c.clauth f.clauth), (taken-test _ rows (id-feedless c.user f.user), (level-test _ rows (ids-feedless c.seclevel f.seclevel), (category-test _ rows (names-feedless c.addcategory f.addcategory), (label-test _ rows (ids-feedless c.seclabel f.seclabel), (users-test issuer _ rows, (user_full-test _, (connections-test issuer _ rows, tt))))))))))
   each-test (command.AltUser c) rows f are =
@@ -395,17 +440,18 @@ module _ (issuer : Issuer) (issuer_id : IsFeedless issuer.id) (issuer_group : Is
   each-test (command.RDefine c) rows f are =
       let class = id-feedless c.class f.class in
       let name = class_profile-feedless c.class c.profile f.profile in
-      (owner-test _ rows (ids-feedless c.owner f.owner), (resource_class-test _ rows class, (global_class-test _ _ rows, (profile_taken-test _ _ rows name, (generic-test _ _ class, (level-test _ rows (ids-feedless c.seclevel f.seclevel), (category-test _ rows (names-feedless c.addcategory f.addcategory), (label-test _ rows (ids-feedless c.seclabel f.seclabel), (class_profiles-test issuer _ _ rows, (profiles-test issuer _ rows, (members-test issuer _ _ _ rows, (categories-test issuer _ rows, tt))))))))))))
+      (owner-test _ rows (ids-feedless c.owner f.owner), (resource_class-test _ rows class, (global_class-test _ _ rows, (profile_taken-test _ _ rows name, (generic-test _ _ rows class, (level-test _ rows (ids-feedless c.seclevel f.seclevel), (category-test _ rows (names-feedless c.addcategory f.addcategory), (label-test _ rows (ids-feedless c.seclabel f.seclabel), (class_profiles-test issuer _ _ rows, (profiles-test issuer _ rows, (members-test issuer _ _ _ rows, (categories-test issuer _ rows, (allowed-test _ _ rows class, tt)))))))))))))
   each-test (command.RAlter c) rows f are =
       let class = id-feedless c.class f.class in
       let name = class_profile-feedless c.class c.profile f.profile in
       (owner-test _ rows (ids-feedless c.owner f.owner), (resource_profile-test _ _ rows class name, (resource_class-test _ rows class, (level-test _ rows (ids-feedless c.seclevel f.seclevel), (category-test _ rows (names-feedless c.addcategory f.addcategory), (never-test _ rows (names-feedless c.delcategory f.delcategory), (label-test _ rows (ids-feedless c.seclabel f.seclabel), (members-test issuer _ _ _ rows, (categories-test issuer _ rows, tt)))))))))
-  each-test (command.DefineClass c) rows f are = (owner-test _ rows (ids-feedless c.owner f.owner), (resource_class-test _ rows refl, tt))
+  each-test (command.DefineClass c) rows f are =
+      (owner-test _ rows (ids-feedless c.owner f.owner), (resource_class-test _ rows refl, (class_taken-test _ rows (class_profile-feedless cdt c.profile f.profile), (class_profiles-test issuer _ _ rows, (profiles-test issuer _ rows, (classes-test issuer _ rows, tt))))))
   each-test (command.AlterClass c) rows f are =
       (owner-test _ rows (ids-feedless c.owner f.owner), (resource_profile-test _ _ rows refl (class_profile-feedless cdt c.profile f.profile), (resource_class-test _ rows refl, tt)))
   each-test (command.RDelete c) rows f are =
       let class = id-feedless c.class f.class in
-      (resource_profile-test _ _ rows class (class_profile-feedless c.class c.profile f.profile), (resource_class-test _ rows class, tt))
+      (resource_profile-test _ _ rows class (class_profile-feedless c.class c.profile f.profile), (resource_class-test _ rows class, (in_use-test c rows are, tt)))
   each-test (command.Permit c) rows f are =
       let class = id-feedless c.class f.class in
       (permitted-test _ _ rows (whos-feedless c.id f.id), (profile-test _ _ rows class (any_profile-feedless c.class c.profile f.profile), (such_class-test _ rows class, (standard-test issuer _ rows, (conditional-test issuer _ rows, (entries-test issuer _ rows, tt))))))
@@ -414,7 +460,7 @@ module _ (issuer : Issuer) (issuer_id : IsFeedless issuer.id) (issuer_group : Is
       let noclassact = names-feedless c.noclassact f.noclassact in
       let noraclist = names-feedless c.noraclist f.noraclist in
       let generic = names-feedless c.generic f.generic in
-      (absent-test _ rows (names-feedless c.classact f.classact), (absent-test _ rows noclassact, (absent-test _ rows raclist, (absent-test _ rows noraclist, (absent-test _ rows (names-feedless c.global f.global), (absent-test _ rows (names-feedless c.noglobal f.noglobal), (absent-test _ rows generic, (absent-test _ rows (logged-feedless c.logoptions f.logoptions), (without_generic-test _ generic, (unlisted-test _ rows (if-feedless c.refresh c.raclist [] raclist tt), (unlisted-test _ rows noraclist, (always_active-test _ noclassact, (never_listed-test _ (if-feedless c.refresh [] c.raclist tt raclist), tt)))))))))))))
+      (absent-test _ rows (names-feedless c.classact f.classact), (absent-test _ rows noclassact, (absent-test _ rows raclist, (absent-test _ rows noraclist, (absent-test _ rows (names-feedless c.global f.global), (absent-test _ rows (names-feedless c.noglobal f.noglobal), (absent-test _ rows generic, (absent-test _ rows (logged-feedless c.logoptions f.logoptions), (without_generic-test _ rows generic, (unlisted-test _ rows (if-feedless c.refresh c.raclist [] raclist tt), (unlisted-test _ rows noraclist, (always_active-test _ noclassact, (never_listed-test _ rows (if-feedless c.refresh [] c.raclist tt raclist), tt)))))))))))))
 
   pub conflict-feedless : (c : CommandFields) (rows : Rows) → AreLawfulFields c → AreFeedless rows → IsFeedlessTest (conflict_of issuer c rows)
   conflict-feedless c rows f are = first-test (conflicts issuer c rows) (each-test c rows f are)

@@ -6,21 +6,25 @@ use Rattle.std.specs.Option.{option_map_or}
 use Rattle.racf_profiles.specs.declared.class_rows.ClassRow.{ClassRow}
 use Rattle.racf_profiles.specs.declared.class_rows.LogOption.{LogOption}
 use Rattle.racf_profiles.specs.declared.options.Options.{Options}
+use Rattle.racf_profiles.specs.declared.users.User.{User}
 use Rattle.racf_profiles.specs.declared.edits.Edit.{Edit}
-use Rattle.racf_profiles.specs.declared.edits.Edit.TheVariants.{PutOptions, PutClass, List as ListCopy, Unlist}
-use Rattle.racf_profiles.specs.Lookup.{is_class, class_of}
-use Rattle.racf_profiles.specs.Edits.{put_row, drop_row, at_class, with_flags, with_listed}
+use Rattle.racf_profiles.specs.declared.edits.Edit.TheVariants.{PutUser, DropProfile, PutOptions, PutClass, List as ListCopy, Unlist, DropClass}
+use Rattle.generic_names.specs.Spelled.{Spelled}
+use Rattle.racf_profiles.specs.Lookup.{is_user, is_profile, is_class, class_of}
+use Rattle.racf_profiles.specs.Edits.{put_row, drop_row, at_class, without_profile, with_flags, with_listed}
 use Rattle.racf_profiles.specs.State.{State, ListedCopy, is_copy_of, copy_of_class, edited_state, changed_state}
 use Rattle.racf_profiles.proofs.EditLaws.{all-drop_row}
 use Rattle.command_fields.specs.declared.option_fields.SetRopts.{SetRopts}
+use Rattle.command_fields.specs.declared.profile_fields.RDelete.{RDelete}
 use Rattle.command_fields.specs.declared.fields.CommandFields.{CommandFields}
 use Rattle.command_fields.specs.declared.fields.CommandFields.TheVariants as fields
+use Rattle.command_rules.specs.ProfileEffects.{has_clauth, without_clauth, deleted_class}
 use Rattle.command_rules.specs.OptionEffects.{set_class, set_options}
-use Rattle.command_rules.specs.Edits.{sets_options, sets_flags, lists, unlists, put_flags, edits_of_set_ropts}
-use Rattle.lawful_commands.proofs.RowLists.{all-both}
+use Rattle.command_rules.specs.Edits.{sets_options, sets_flags, lists, unlists, put_flags, edits_of_set_ropts, put_without_clauth, drop_class, edits_of_r_delete}
+use Rattle.lawful_commands.proofs.RowLists.{all-both, all-filter}
 use Rattle.lawful_commands.proofs.ProfileRows.{all-at_class}
 use Rattle.desk_rules.specs.Position.{copies_behind}
-use Rattle.audit_records.specs.Feedless.{IsFeedless, IsFeedlessProfile, AreFeedlessProfiles, AreFeedless, IsFeedlessState}
+use Rattle.audit_records.specs.Feedless.{IsFeedless, IsFeedlessUser, IsFeedlessProfile, AreFeedlessProfiles, AreFeedless, IsFeedlessState}
 use Rattle.audit_records.proofs.Feedless.{if-found}
 
 abbrev IsFeedlessCopy : ListedCopy → Type 0
@@ -82,12 +86,49 @@ set_ropts-keep c state are =
     options-put true options named = (options-keep options named, tt)
     options-put false options named = tt
 
+-- ---- the edits of RDELETE
+user-keeps : (user : User) → IsFeedlessUser user → KeepsState (PutUser user)
+user-keeps user h state are = record {
+  rows = record { users = all-put_row IsFeedlessUser (is_user user.id) user state.rows.users h are.rows.users; groups = are.rows.groups; classes = are.rows.classes; categories = are.rows.categories };
+  copies = are.copies;
+}
+
+users-keep : (class : List ℕ) (users : List User) → AllByRecursion IsFeedlessUser users → AllByRecursion KeepsState (map (λ user. PutUser (without_clauth class user)) users)
+users-keep class [] are = tt
+users-keep class (user ∷ users) are = (user-keeps (without_clauth class user) (record { id = are.0.id; default_group = are.0.default_group; groups = are.0.groups }), users-keep class users are.1)
+
+profile-keeps : (class : List ℕ) (name : Spelled) → KeepsState (DropProfile class name)
+profile-keeps class name state are = record {
+  rows = with-classes state _ are (all-at_class AreFeedlessProfiles class (without_profile name) state.rows.classes (λ row found h. all-drop_row IsFeedlessProfile (is_profile name) row.profiles h) are.rows.classes);
+  copies = are.copies;
+}
+
+class-keeps : (name : List ℕ) → KeepsState (DropClass name)
+class-keeps name state are = record { rows = with-classes state _ are (all-filter AreFeedlessProfiles _ state.rows.classes are.rows.classes); copies = by (class_of name state.rows) }
+  where
+    by : (o : Option ClassRow) → AllByRecursion IsFeedlessCopy (option_map_or (λ (class : ClassRow). drop_row (is_copy_of name) state.copies) o state.copies)
+    by None = are.copies
+    by (Some class) = all-drop_row IsFeedlessCopy (is_copy_of name) state.copies are.copies
+
+r_delete-keep : (c : RDelete) (state : State) → IsFeedlessState state → AllByRecursion KeepsState (edits_of_r_delete c state.rows)
+r_delete-keep c state are =
+    all-both KeepsState (put_without_clauth (deleted_class c) state.rows.users) (DropProfile c.class c.profile ∷ drop_class (deleted_class c)) (users-put (deleted_class c)) (profile-keeps c.class c.profile, dropped (deleted_class c))
+  where
+    users-put : (class : Option (List ℕ)) → AllByRecursion KeepsState (put_without_clauth class state.rows.users)
+    users-put None = tt
+    users-put (Some class) = users-keep class (filter (has_clauth class) state.rows.users) (all-filter IsFeedlessUser (has_clauth class) state.rows.users are.rows.users)
+
+    dropped : (class : Option (List ℕ)) → AllByRecursion KeepsState (drop_class class)
+    dropped None = tt
+    dropped (Some class) = (class-keeps class, tt)
+
 changed-keeps : (edits : List Edit) (state : State) → AllByRecursion KeepsState edits → IsFeedlessState state → IsFeedlessState (changed_state edits state)
 changed-keeps [] state keep are = are
 changed-keeps (edit ∷ edits) state keep are = changed-keeps edits (edited_state edit state) keep.1 (keep.0 state are)
 
 pub copies-feedless : (command : CommandFields) (state : State) → IsFeedlessState state → AllByRecursion IsFeedlessCopy (copies_behind command state)
 copies-feedless (fields.SetRopts c) state are = (changed-keeps (edits_of_set_ropts c state.rows) state (set_ropts-keep c state are) are).copies
+copies-feedless (fields.RDelete c) state are = (changed-keeps (edits_of_r_delete c state.rows) state (r_delete-keep c state are) are).copies
 copies-feedless command state are = are.copies
 
 -- the copies of classes whose profiles hold none

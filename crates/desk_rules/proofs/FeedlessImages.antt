@@ -1,6 +1,6 @@
 -- Rows that are read of an image hold no line feed: each of their IDs and names is read as one.
-use Rattle.std.proofs.Common.{◌≡◌, ℕ, zero, suc, ◌+◌, Bool, true, false, List, [], ◌∷◌, length, map, Option, Some, None, Result, Ok, Err, refl, ◌∙◌, subst}
-use Rattle.std.specs.Prelude.{nat_le, ◌&&◌, ◌==◌, is_ok, IfSome, bytes_eq, codes, option_map, if◌then◌else◌}
+use Rattle.std.proofs.Common.{◌≡◌, ℕ, zero, suc, ◌+◌, Bool, true, false, List, [], ◌∷◌, ◌++◌, length, map, Option, Some, None, Result, Ok, Err, refl, ◌∙◌, subst}
+use Rattle.std.specs.Prelude.{nat_lt, nat_le, ◌&&◌, is_ok, IfSome, bytes_eq, codes, option_map, if◌then◌else◌}
 use Rattle.std.specs.List.{AllByRecursion, list_any, sum_by}
 use Rattle.access_levels.specs.Spelling.{id_of, group_of}
 use Rattle.access_levels.specs.Level.{level_rank, levels, authority_rank, authorities, port_classes}
@@ -19,20 +19,22 @@ use Rattle.racf_profiles.specs.declared.profiles.Member.{Member}
 use Rattle.racf_profiles.specs.declared.profiles.Member.TheVariants as members
 use Rattle.racf_profiles.specs.declared.class_rows.ClassRow.{ClassRow}
 use Rattle.racf_profiles.specs.declared.rows.Rows.{Rows}
-use Rattle.racf_profiles.specs.ClassTable.{fixed_classes}
 use Rattle.racf_profiles.specs.Names.{connections}
 use Rattle.racf_profiles.specs.Counts.{profile_count, entry_count, entries_in}
-use Rattle.racf_profiles.specs.Limits.{most_users, most_groups, most_connections, most_connections_in_all, most_class_profiles, most_profiles, most_list_entries, most_entries_in_all, most_members, most_categories}
-use Rattle.racf_profiles.specs.LawfulProfiles.{kind_in, member_name}
+use Rattle.racf_profiles.specs.Limits.{most_users, most_groups, most_connections, most_connections_in_all, most_class_profiles, most_profiles, most_list_entries, most_entries_in_all, most_categories}
+use Rattle.racf_profiles.specs.DynamicClasses.{cdt}
+use Rattle.racf_profiles.specs.Edits.{added_class}
+use Rattle.racf_profiles.specs.LawfulProfiles.{kind_in, member_name, names_of}
 use Rattle.database_image.specs.Reading.{◌>>=◌}
 use Rattle.database_image.specs.Forms.{number}
 use Rattle.database_image.specs.Fields.{any, below, at_most, of_text, text_in, id_text, group_text, itself, text_or_none, unless_blank, who_text, who_of, filled_spelling, text_spelling, ranked, label, is_set, is_new}
-use Rattle.database_image.specs.Description.{within, text, option_flags, options, is_superior_of, group, attributes, connect_flags, connection, printable, defined, user, spelled_text, pattern_in, member_in, is_pattern_at, audit_rank, audit_levels, flag_rank, entry, entry_key, port_rank, cond_key, cond_entry, cond_entry_key, member_kind, is_kind_in, resources_of, level_of_member, number_of_member, is_new_member, member_of_kind, member, profile, class_flags, are_class_flags, is_class_at, log_rank, log_options, class, image}
+use Rattle.database_image.specs.Description.{within, text, option_flags, options, is_superior_of, group, attributes, connect_flags, connection, printable, defined, user, spelled_text, pattern_in, member_in, is_pattern_at, audit_rank, audit_levels, flag_rank, entry, entry_key, port_rank, cond_key, cond_entry, cond_entry_key, member_kind, is_kind_in, resources_of, level_of_member, number_of_member, trait_flags, longest_of_member, is_new_member, member_of_kind, member, is_member_count, profile, class_flags, are_class_flags, is_class_at, is_old_count, is_read_count, log_rank, log_options, class, image_by, read_image}
 use Rattle.database_image.specs.Facts.{facts, first_broken}
-use Rattle.database_image.specs.Image.{unless_more, from_beginning, first_pass, unless_broken, second_pass, rows_of}
+use Rattle.database_image.specs.Image.{with_cdt, completed, unless_more, from_beginning, first_pass, unless_broken, second_pass, rows_of}
 use Rattle.audit_records.specs.Feedless.{IsFeedless, IsFeedlessUser, IsFeedlessGroup, IsFeedlessWho, IsFeedlessMember, IsFeedlessProfile, AreFeedlessProfiles, AreFeedless}
 use Rattle.audit_records.proofs.FeedlessNames.{pattern_name-feedless, member_name-feedless}
 use Rattle.desk_rules.proofs.FeedlessFields.{spelled_id-feedless, spelled_group-feedless}
+use Rattle.lawful_commands.proofs.RowLists.{all-push}
 use Rattle.desk_rules.proofs.Readings.{Only, Reads, bind_ok, field_, any_, then_, done_, listed_}
 
 -- ---- IDs, names of groups, and either where it may be left out
@@ -202,11 +204,18 @@ category_member_ names before =
     then_ member_name (id_ (λ name. is_new_member before name && list_any (λ other. bytes_eq other name) names)) (λ name.
     done_ (members.Category name) (λ of_name. of_name))
 
+abbrev traits_member_ : (before : List Member) → Reads IsFeedlessMember
+traits_member_ before =
+    then_ trait_flags (any_ (number 1 (λ flags. nat_lt flags 4 && is_new_member before []))) (λ flags.
+    then_ longest_of_member (any_ (number 1 (λ n. nat_le 1 n && nat_le n 246))) (λ longest.
+    done_ (members.Traits (record { operations = is_set flags 1; ids = is_set flags 2; longest = longest })) (λ b a. tt)))
+
 only-member_of_kind : (names : List (List ℕ)) (profile : List ℕ) (before : List Member) (kind : ℕ) → Only (member_of_kind names profile before kind) IsFeedlessMember
-only-member_of_kind names profile before zero = (category_member_ names before).only
+only-member_of_kind names profile before zero = (traits_member_ before).only
 only-member_of_kind names profile before (suc zero) = (access_member_ profile before).only
 only-member_of_kind names profile before (suc (suc zero)) = (level_member_ before).only
-only-member_of_kind names profile before (suc (suc (suc n))) = (category_member_ names before).only
+only-member_of_kind names profile before (suc (suc (suc zero))) = (category_member_ names before).only
+only-member_of_kind names profile before (suc (suc (suc (suc n)))) = (traits_member_ before).only
 
 abbrev member_ : (names : List (List ℕ)) (class profile : List ℕ) (before : List Member) → Reads IsFeedlessMember
 member_ names class profile before =
@@ -232,7 +241,7 @@ profile_ names class entries before =
     then_ (λ (p : Profile). p.label) (any_ label) (λ label.
     then_ (λ (p : Profile). p.standard) (listed_ 2 (within most_list_entries most_entries_in_all (entries + sum_by entries_in before)) entry only-entry) (λ standard.
     then_ (λ (p : Profile). p.conditional) (listed_ 2 (within most_list_entries most_entries_in_all (entries + sum_by entries_in before + length standard)) cond_entry only-cond_entry) (λ conditional.
-    then_ (λ (p : Profile). p.members) (listed_ 2 (at_most most_members) (member names class name.text) (only-member names class name.text)) (λ members.
+    then_ (λ (p : Profile). p.members) (listed_ 2 (is_member_count class) (member names class name.text) (only-member names class name.text)) (λ members.
     done_ (record { name = name; owner = owner; uacc = uacc; warning = warning; standard = standard; conditional = conditional; level = level; categories = set; label = label; audit = record { success = success; failures = failures }; global_audit = record { success = global_success; failures = global_failures }; members = members })
     (λ of_members of_conditional of_standard l k j i h g f e d c of_name. record { name = of_name; standard = of_standard; conditional = of_conditional; members = of_members })))))))))))))))
 
@@ -242,7 +251,7 @@ only-profile names class entries before = (profile_ names class entries before).
 
 abbrev class_ : (names : List (List ℕ)) (before : List ClassRow) → Reads AreFeedlessProfiles
 class_ names before =
-    then_ (λ (c : ClassRow). c.name) (id_ (is_class_at (length before))) (λ name.
+    then_ (λ (c : ClassRow). c.name) (id_ (is_class_at (names_of before))) (λ name.
     then_ (λ (c : ClassRow). class_flags c) (any_ (number 1 (are_class_flags name))) (λ flags.
     then_ (λ (c : ClassRow). c.log) (any_ (ranked log_rank log_options)) (λ log.
     then_ (λ (c : ClassRow). c.profiles) (listed_ 4 (within most_class_profiles most_profiles (profile_count before)) (profile names name (entry_count before)) (only-profile names name (entry_count before))) (λ profiles.
@@ -258,13 +267,26 @@ image_ =
     then_ (λ (r : Rows). r.options) (record { form = options; only = only-options }) (λ options.
     then_ (λ (r : Rows). r.groups) (listed_ 4 (at_most most_groups) group only-group) (λ groups.
     then_ (λ (r : Rows). r.users) (listed_ 4 (at_most most_users) (user (length options.categories)) (only-user (length options.categories))) (λ users.
-    then_ (λ (r : Rows). r.classes) (listed_ 2 (λ count. count == length fixed_classes) (class options.categories) (only-class options.categories)) (λ classes.
+    then_ (λ (r : Rows). r.classes) (listed_ 2 is_read_count (class options.categories) (only-class options.categories)) (λ classes.
     done_ (record { users = users; groups = groups; classes = classes; options = options })
     (λ of_classes of_users of_groups of_options. record { users = of_users; groups = of_groups; classes = of_classes; categories = of_options })))))
 
-only-image : Only image AreFeedless
-unfolding image
+only-image : Only read_image AreFeedless
+unfolding image_by
 only-image = image_.only
+
+-- the class CDT is added without a profile
+with_cdt-feedless : (b : Bool) (classes : List ClassRow) → AllByRecursion AreFeedlessProfiles classes → AllByRecursion AreFeedlessProfiles (if b then classes ++ added_class cdt ∷ [] else classes)
+with_cdt-feedless true classes h = all-push AreFeedlessProfiles classes (added_class cdt) h tt
+with_cdt-feedless false classes h = h
+
+completed-feedless : (rows : Rows) → AreFeedless rows → AreFeedless (completed rows)
+completed-feedless rows are = record {
+  users = are.users;
+  groups = are.groups;
+  classes = with_cdt-feedless (is_old_count (length rows.classes)) rows.classes are.classes;
+  categories = are.categories;
+}
 
 -- nothing stands behind the last field, and the facts between fields hold
 ended : (rows : Rows) (behind : List ℕ) (x : Rows) → unless_more rows behind ≡ Ok x → rows ≡ x
@@ -284,7 +306,7 @@ pub image-feedless : (bytes : List ℕ) (rows : Rows) → rows_of bytes ≡ Ok r
 unfolding rows_of first_pass second_pass
 image-feedless bytes rows e =
     let passed = bind_ok (first_pass bytes) second_pass rows e in
-    let rest : Rows × List ℕ → Result Rows ℕ = λ read. unless_more read.0 read.1 in
-    let read = bind_ok (image.reading bytes) rest passed.0 (told bytes (image.reading bytes >>= rest) passed.0 passed.1) in
-    let same : read.0.0 ≡ rows = ended read.0.0 read.0.1 passed.0 read.2 ∙ unbroken passed.0 (first_broken (facts passed.0)) rows passed.2 in
-    subst AreFeedless same (only-image bytes read.0.0 read.0.1 read.1)
+    let rest : Rows × List ℕ → Result Rows ℕ = λ read. unless_more (completed read.0) read.1 in
+    let read = bind_ok (read_image.reading bytes) rest passed.0 (told bytes (read_image.reading bytes >>= rest) passed.0 passed.1) in
+    let same : completed read.0.0 ≡ rows = ended (completed read.0.0) read.0.1 passed.0 read.2 ∙ unbroken passed.0 (first_broken (facts passed.0)) rows passed.2 in
+    subst AreFeedless same (completed-feedless read.0.0 (only-image bytes read.0.0 read.0.1 read.1))

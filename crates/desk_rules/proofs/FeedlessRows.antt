@@ -11,6 +11,7 @@ use Rattle.access_levels.specs.declared.entries.CondEntry.{CondEntry}
 use Rattle.access_levels.specs.declared.entries.Condition.{Condition}
 use Rattle.access_lists.specs.Lists.{is_for, is_for_under, entry_put}
 use Rattle.generic_names.specs.Spelled.{Spelled}
+use Rattle.racf_profiles.specs.declared.users.User.{User}
 use Rattle.racf_profiles.specs.declared.users.Connect.{Connect as Connection}
 use Rattle.racf_profiles.specs.declared.profiles.Profile.{Profile}
 use Rattle.racf_profiles.specs.declared.profiles.Member.{Member}
@@ -18,7 +19,8 @@ use Rattle.racf_profiles.specs.declared.profiles.Member.TheVariants as member
 use Rattle.racf_profiles.specs.declared.rows.Rows.{Rows}
 use Rattle.racf_profiles.specs.Lookup.{is_user, is_group, is_profile, profile_of}
 use Rattle.racf_profiles.specs.Names.{is_to}
-use Rattle.racf_profiles.specs.Edits.{with_profile, without_profile}
+use Rattle.racf_profiles.specs.Edits.{with_profile, without_profile, added_class}
+use Rattle.racf_profiles.specs.DynamicClasses.{cdt}
 use Rattle.racf_profiles.proofs.OrderedProfiles.{all-put_profile}
 use Rattle.racf_profiles.proofs.EditLaws.{all-drop_row}
 use Rattle.command_fields.specs.declared.resets.Reset.{Reset}
@@ -38,11 +40,11 @@ use Rattle.command_fields.specs.declared.log_clauses.LogClause.{LogClause}
 use Rattle.command_fields.specs.LawfulFields.{IsId, IsGroupName, IsNamedOne, AreWhosOfPermit, IsPort, IsLogClause, AreMembersOf, AreLawfulFields}
 use Rattle.command_fields.specs.Issuers.{group_or_current}
 use Rattle.command_rules.specs.UserEffects.{new_user, altered_user, new_group, altered_group, altered_connection, connects_after, connected_user, removed_user, owner_or_issuer}
-use Rattle.command_rules.specs.ProfileEffects.{dataset, new_data_set, altered_data_set, new_resource, altered_resource, profile_put, profile_dropped, profile_changed}
+use Rattle.command_rules.specs.ProfileEffects.{dataset, new_data_set, altered_data_set, new_resource, altered_resource, profile_put, profile_dropped, profile_changed, named_class, new_class_profile, altered_class_profile, without_clauth, deleted_class, class_added, class_dropped}
 use Rattle.command_rules.specs.PermitEffects.{standard_reset, conditional_reset, with_entry, with_conditional, standard_entries, conditional_entries, permitted_profile, level_of}
 use Rattle.command_rules.specs.OptionEffects.{set_class}
 use Rattle.command_rules.specs.Effects.{step}
-use Rattle.lawful_commands.proofs.RowLists.{all-push, all-filter, all-at, all-put, all-map, all-both}
+use Rattle.lawful_commands.proofs.RowLists.{all-each, all-push, all-filter, all-at, all-put, all-map, all-both}
 use Rattle.lawful_commands.proofs.FieldFacts.{each-all}
 use Rattle.lawful_commands.proofs.ProfileRows.{all-at_class}
 use Rattle.audit_records.specs.Feedless.{IsFeedlessUser, IsFeedlessGroup, IsFeedlessWho, IsFeedlessMember, IsFeedlessProfile, AreFeedlessProfiles, AreFeedless, IsFeedless}
@@ -98,6 +100,23 @@ module _ (class : List ℕ) (rows : Rows) (are : AreFeedless rows) where
       by : (o : Option Profile) → IfSome o IsFeedlessProfile → AreFeedless (option_map_or (λ old. profile_put class (change old) rows) o rows)
       by None h = are
       by (Some old) h = put-rows (change old) (keeps old h)
+
+-- ---- rows of classes
+class-added : (class : Option (List ℕ)) (rows : Rows) → AreFeedless rows → AreFeedless (class_added class rows)
+class-added None rows are = are
+class-added (Some class) rows are = record { users = are.users; groups = are.groups; classes = all-push AreFeedlessProfiles rows.classes (added_class class) are.classes tt; categories = are.categories }
+
+without-feedless : (class : List ℕ) (user : User) → IsFeedlessUser user → IsFeedlessUser (without_clauth class user)
+without-feedless class user h = record { id = h.id; default_group = h.default_group; groups = h.groups }
+
+class-dropped : (class : Option (List ℕ)) (rows : Rows) → AreFeedless rows → AreFeedless (class_dropped class rows)
+class-dropped None rows are = are
+class-dropped (Some class) rows are = record {
+  users = all-map (without_clauth class) IsFeedlessUser rows.users (all-each IsFeedlessUser _ (without-feedless class) rows.users are.users);
+  groups = are.groups;
+  classes = all-filter AreFeedlessProfiles _ rows.classes are.classes;
+  categories = are.categories;
+}
 
 -- ---- access lists after PERMIT
 fold-keeps : {A B : Type 0} (P : A → Type 0) (Q : B → Type 0) (f : A → B → A) → ((a : A) (b : B) → P a → Q b → P (f a b)) → (xs : List B) (a : A) → P a → AllByRecursion Q xs → P (fold f a xs)
@@ -165,6 +184,9 @@ member-feedless forms.Category (member.SecurityLevel name number) h = absurd h
 member-feedless forms.Category (member.Category name) h = id-feedless name h
 member-feedless (forms.Access kind) (member.Category name) h = absurd h
 member-feedless forms.SecurityLevel (member.Category name) h = absurd h
+member-feedless forms.Category (member.Traits traits) h = absurd h
+member-feedless (forms.Access kind) (member.Traits traits) h = absurd h
+member-feedless forms.SecurityLevel (member.Traits traits) h = absurd h
 
 members-feedless : (form : Option MemberForm) (added : List Member) → AreMembers form added → AllByRecursion IsFeedlessMember added
 members-feedless None added h = absurd h
@@ -177,6 +199,7 @@ added-feedless class name (first ∷ more) h = members-feedless (member_form (So
 category-feedless : (names : List (List ℕ)) (added : Member) → AllByRecursion IsFeedless names → IsFeedlessMember added → AllByRecursion IsFeedless (with_category_name names added)
 category-feedless names (member.Access resources level) are h = are
 category-feedless names (member.SecurityLevel name number) are h = are
+category-feedless names (member.Traits traits) are h = are
 category-feedless names (member.Category name) are h = by (list_any (λ other. bytes_eq other name) names)
   where
     by : (b : Bool) → AllByRecursion IsFeedless (cond b names (names ++ name ∷ []))
@@ -260,9 +283,10 @@ module _ (issuer : Issuer) (issuer_id : IsFeedless issuer.id) (issuer_group : Is
   step-feedless (command.RAlter c) rows f are =
       let changed = changed-rows c.class rows are c.profile (altered_resource c rows) (λ old h. record { name = h.name; standard = h.standard; conditional = h.conditional; members = members_after-feedless c.class c.profile c.addmem c.delmem old.members f.addmem h.members }) in
       record { users = changed.users; groups = changed.groups; classes = changed.classes; categories = defined-feedless c.class c.profile c.addmem rows.options.categories f.addmem are.categories }
-  step-feedless (command.DefineClass c) rows f are = are
-  step-feedless (command.AlterClass c) rows f are = are
-  step-feedless (command.RDelete c) rows f are = dropped-rows c.class rows are c.profile
+  step-feedless (command.DefineClass c) rows f are =
+      class-added (named_class c.profile) _ (put-rows cdt rows are (new_class_profile issuer c) (record { name = class_profile-feedless cdt c.profile f.profile; standard = tt; conditional = tt; members = (tt, tt) }))
+  step-feedless (command.AlterClass c) rows f are = changed-rows cdt rows are c.profile (altered_class_profile c) (λ old h. record { name = h.name; standard = h.standard; conditional = h.conditional; members = h.members })
+  step-feedless (command.RDelete c) rows f are = class-dropped (deleted_class c) _ (dropped-rows c.class rows are c.profile)
   step-feedless (command.Permit c) rows f are =
       changed-rows c.class rows are c.profile (permitted_profile c) (permitted-feedless c (whos-feedless c.id f.id) f.when)
   step-feedless (command.SetRopts c) rows f are = record { users = are.users; groups = are.groups; classes = all-map (set_class c) AreFeedlessProfiles rows.classes are.classes; categories = are.categories }

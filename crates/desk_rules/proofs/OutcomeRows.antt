@@ -18,9 +18,9 @@ use Rattle.desk_rules.specs.Outcome.{outcome_in, outcome}
 use Rattle.desk_rules.specs.Position.{Position, first_position, position_after}
 use Rattle.desk_rules.specs.Words.{refusal_words}
 
--- A new database: its journal begins behind an image of 313 bytes, which the rows of recovery compute.
+-- A new database: its journal begins behind an image of 327 bytes, which the rows of recovery compute.
 abbrev pub at_start : Position
-at_start = record { image = first_position.image; gate = 346 }
+at_start = record { image = first_position.image; gate = 360 }
 
 -- A command, who gives it, and the group that is named for him if one is.
 record Given : Type 0 where

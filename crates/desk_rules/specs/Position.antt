@@ -8,7 +8,7 @@ use Rattle.database_image.specs.Image.{image_of}
 use Rattle.command_fields.specs.declared.fields.CommandFields.{CommandFields}
 use Rattle.command_fields.specs.declared.fields.CommandFields.TheVariants as fields
 use Rattle.command_rules.specs.Effects.{step}
-use Rattle.command_rules.specs.Edits.{edits_of_set_ropts}
+use Rattle.command_rules.specs.Edits.{edits_of_set_ropts, edits_of_r_delete}
 use Rattle.raclist_image.specs.Imaged.{Imaged}
 use Rattle.journal_records.specs.declared.record.CommandRecord.{CommandRecord}
 use Rattle.journal_records.specs.Spelling.{spelled}
@@ -36,9 +36,11 @@ first_position = at_checkpoint new_database 0 (start_behind new_database)
 abbrev pub compacted : Position → Position
 compacted position = record { image = position.image; gate = start_behind position.image.state.rows }
 
--- The listed copies behind a command: SETROPTS makes and drops them by its edits, and no other command does.
+-- The listed copies behind a command: SETROPTS makes and drops them by its edits, RDELETE drops that of a class which it
+-- takes away, and no other command touches one.
 abbrev pub copies_behind : CommandFields → State → List ListedCopy
 copies_behind (fields.SetRopts c) state = (changed_state (edits_of_set_ropts c state.rows) state).copies
+copies_behind (fields.RDelete c) state = (changed_state (edits_of_r_delete c state.rows) state).copies
 copies_behind command state = state.copies
 
 -- Behind an accepted command, which is the record of it: one command more, and the rows are as it leaves them.

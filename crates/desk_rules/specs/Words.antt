@@ -34,7 +34,7 @@ abbrev pub named_words : Named → List ℕ
 named_words (named.Id id) = id
 named_words (named.Profile profile) = profile.text
 
--- what still uses a user or a group
+-- what still uses a user, a group or a class
 abbrev pub holder_words : Holder → List ℕ
 holder_words (holder.Subgroup id) = codes "SUBGROUP " ++ id
 holder_words (holder.Connected id) = codes "CONNECTED " ++ id
@@ -52,6 +52,7 @@ kind_words kind.Entries = codes "ENTRIES"
 kind_words kind.AllEntries = codes "ALLENTRIES"
 kind_words kind.Members = codes "MEMBERS"
 kind_words kind.Categories = codes "CATEGORIES"
+kind_words kind.Classes = codes "CLASSES"
 
 -- what a command conflicts with
 abbrev pub conflict_words : Conflict → List ℕ
@@ -71,6 +72,7 @@ conflict_words (conflict.ClassFixed class) = codes "CLASSFIXED " ++ class
 conflict_words (conflict.DefaultGroup group) = codes "DEFAULTGROUP " ++ group
 conflict_words (conflict.LastSpecial user) = codes "LASTSPECIAL " ++ user
 conflict_words (conflict.UnknownName name) = codes "UNKNOWNNAME " ++ name
+conflict_words (conflict.NameNotAllowed class) = codes "NAMENOTALLOWED " ++ class
 conflict_words (conflict.Full kind limit) = codes "FULL " ++ kind_words kind ++ codes " " ++ decimal limit
 
 -- what lets an issuer give a command

@@ -59,6 +59,7 @@ pub(crate) fn write_conflict(conflict: &Conflict, out: &mut Vec<u8>) -> Result<(
         Conflict::DefaultGroup(group) => write_name(b"DEFAULTGROUP ", group.text(), out),
         Conflict::LastSpecial(user) => write_name(b"LASTSPECIAL ", user.text(), out),
         Conflict::UnknownName(name) => write_name(b"UNKNOWNNAME ", name.text(), out),
+        Conflict::NameNotAllowed(class) => write_name(b"NAMENOTALLOWED ", class.text(), out),
         Conflict::Full(kind, limit) => {
             write_name(b"FULL ", kind_word(*kind), out)?;
             write_number(b" ", *limit, out)
@@ -118,7 +119,7 @@ fn write_named(name: &Named, out: &mut Vec<u8>) -> Result<(), AllocError>
     }
 }
 
-/// Writes what still uses a user or a group at the end of `out`.
+/// Writes what still uses a user, a group or a class at the end of `out`.
 fn write_holder(holder: &Holder, out: &mut Vec<u8>) -> Result<(), AllocError>
     ensures { OnOk result (out.new.items ≡ out.old.items ++ holder_words holder.now) }
 {
@@ -144,6 +145,7 @@ fn kind_word(kind: Limit) -> &'static [u8]
         Limit::AllEntries => b"ALLENTRIES".as_slice(),
         Limit::Members => b"MEMBERS".as_slice(),
         Limit::Categories => b"CATEGORIES".as_slice(),
+        Limit::Classes => b"CLASSES".as_slice(),
     }
 }
 

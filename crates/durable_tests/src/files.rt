@@ -42,14 +42,14 @@ pub(crate) type Pair = (Held, Held);
 
 /// The length of the image of a new database, its options and its groups (no flag, no category; SYS1, which has no
 /// superior, of IBMUSER), and how many users it has: one.
-const ONE_USER: &[u8] = b"\0\0\0\0\0\0\x01\x39\0\0\0\0\0\0\x01SYS1            IBMUSER \0\0\0\x01";
+const ONE_USER: &[u8] = b"\0\0\0\0\0\0\x01\x47\0\0\0\0\0\0\x01SYS1            IBMUSER \0\0\0\x01";
 
 /// The same of a database with two users.
-const TWO_USERS: &[u8] = b"\0\0\0\0\0\0\x01\x89\0\0\0\0\0\0\x01SYS1            IBMUSER \0\0\0\x02";
+const TWO_USERS: &[u8] = b"\0\0\0\0\0\0\x01\x97\0\0\0\0\0\0\x01SYS1            IBMUSER \0\0\0\x02";
 
 /// The same of a database with three users.
 const THREE_USERS: &[u8] =
-    b"\0\0\0\0\0\0\x01\xD9\0\0\0\0\0\0\x01SYS1            IBMUSER \0\0\0\x03";
+    b"\0\0\0\0\0\0\x01\xE7\0\0\0\0\0\0\x01SYS1            IBMUSER \0\0\0\x03";
 
 /// IBMUSER, of SYS1, with SPECIAL, OPERATIONS and AUDITOR, and with JOIN in SYS1.
 const IBMUSER: &[u8] = b"IBMUSER SYS1    SYS1    \0\x07\0\
@@ -65,9 +65,10 @@ const HAS_BOB: &[u8] = b"BOB     SYS1    IBMUSER \0\0\0\
 
 /// The classes, of which DATASET alone is active; none has a profile.
 const CLASSES: &[u8] =
-    b"\0\x0eDATASET \x01\0\0\0\0\0FACILITY\0\0\0\0\0\0TERMINAL\0\0\0\0\0\0CONSOLE \0\0\0\0\0\0\
+    b"\0\x0fDATASET \x01\0\0\0\0\0FACILITY\0\0\0\0\0\0TERMINAL\0\0\0\0\0\0CONSOLE \0\0\0\0\0\0\
     JESINPUT\0\0\0\0\0\0APPCPORT\0\0\0\0\0\0APPL    \0\0\0\0\0\0OPERCMDS\0\0\0\0\0\0SURROGAT\0\0\0\0\0\0\
-    TAPEVOL \0\0\0\0\0\0DASDVOL \0\0\0\0\0\0SECDATA \0\0\0\0\0\0SECLABEL\0\0\0\0\0\0GLOBAL  \0\0\0\0\0\0";
+    TAPEVOL \0\0\0\0\0\0DASDVOL \0\0\0\0\0\0SECDATA \0\0\0\0\0\0SECLABEL\0\0\0\0\0\0GLOBAL  \0\0\0\0\0\0\
+    CDT     \0\0\0\0\0\0";
 
 /// A journal without records.
 pub(crate) const EMPTY: &[u8] = b"\0";

@@ -33,7 +33,7 @@ const MADE: &[Call] = &[
     Call::Read,
     Call::Cut(9),
     Call::Write(9, 33),
-    Call::Write(33, 347),
+    Call::Write(33, 361),
     Call::Sync,
     Call::Write(8, 9),
     Call::Sync,
@@ -251,9 +251,9 @@ pub(crate) const REPAIRS: &[Row] = &[
             Call::Read,
             Call::Read,
             Call::Read,
-            Call::Cut(379),
+            Call::Cut(393),
             Call::Sync,
-            Call::Write(378, 379),
+            Call::Write(392, 393),
             Call::Sync,
         ],
         parts: &[
@@ -278,9 +278,9 @@ pub(crate) const REPAIRS: &[Row] = &[
             Call::Read,
             Call::Read,
             Call::Read,
-            Call::Cut(459),
+            Call::Cut(473),
             Call::Sync,
-            Call::Write(458, 459),
+            Call::Write(472, 473),
             Call::Sync,
         ],
         parts: &[
@@ -305,7 +305,7 @@ pub(crate) const REPAIRS: &[Row] = &[
             Call::Read,
             Call::Read,
             Call::Read,
-            Call::Write(378, 379),
+            Call::Write(392, 393),
             Call::Sync,
         ],
         parts: &[
@@ -330,7 +330,7 @@ pub(crate) const REPAIRS: &[Row] = &[
             Call::Read,
             Call::Read,
             Call::Read,
-            Call::Write(458, 459),
+            Call::Write(472, 473),
             Call::Sync,
         ],
         parts: &[
@@ -355,7 +355,7 @@ pub(crate) const REPAIRS: &[Row] = &[
             Call::Read,
             Call::Read,
             Call::Read,
-            Call::Write(346, 347),
+            Call::Write(360, 361),
             Call::Sync,
         ],
         parts: &[
@@ -380,7 +380,7 @@ pub(crate) const REPAIRS: &[Row] = &[
             Call::Read,
             Call::Read,
             Call::Read,
-            Call::Cut(379),
+            Call::Cut(393),
             Call::Sync,
         ],
         parts: &[
@@ -405,7 +405,7 @@ pub(crate) const REPAIRS: &[Row] = &[
             Call::Read,
             Call::Read,
             Call::Read,
-            Call::Cut(459),
+            Call::Cut(473),
             Call::Sync,
         ],
         parts: &[

@@ -113,9 +113,9 @@ pub(crate) const REFUSED: &[(Pair, Status)] = &[
             ),
             BARE,
         ),
-        Status::Damaged(378),
+        Status::Damaged(392),
     ),
-    (((First, NOBODY), BARE), Status::Damaged(346)),
+    (((First, NOBODY), BARE), Status::Damaged(360)),
     (
         (
             (
@@ -124,7 +124,7 @@ pub(crate) const REFUSED: &[(Pair, Status)] = &[
             ),
             BARE,
         ),
-        Status::Damaged(378),
+        Status::Damaged(392),
     ),
     (
         (
@@ -134,17 +134,17 @@ pub(crate) const REFUSED: &[(Pair, Status)] = &[
             ),
             BARE,
         ),
-        Status::Damaged(378),
+        Status::Damaged(392),
     ),
     (
         ((First, b"\x01\0\0\0\x16IBMUSER SYS1    AU JOE\0"), BARE),
-        Status::Damaged(346),
+        Status::Damaged(360),
     ),
     (
         (
             (First, JOE),
             (Second, b"\x01\0\0\0\x1bIBMUSER SYS1    ADDUSER JOE\0"),
         ),
-        Status::Damaged(426),
+        Status::Damaged(440),
     ),
 ];

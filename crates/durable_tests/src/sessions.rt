@@ -285,5 +285,5 @@ fn new_databases_are_the_same(rt: HostRuntime) {
     }
     let (new, _) = NEW;
     let (joe, _) = WITH_JOE;
-    assert!(rt; length_of(&new) == 347 && length_of(&joe) == 379);
+    assert!(rt; length_of(&new) == 361 && length_of(&joe) == 393);
 }

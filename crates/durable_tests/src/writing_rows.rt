@@ -52,9 +52,9 @@ pub(crate) const COMMANDS: &[Row] = &[
             Call::Read,
             Call::Read,
             Call::Read,
-            Call::Write(347, 379),
+            Call::Write(361, 393),
             Call::Sync,
-            Call::Write(346, 347),
+            Call::Write(360, 361),
             Call::Sync,
         ],
         parts: &[
@@ -62,7 +62,7 @@ pub(crate) const COMMANDS: &[Row] = &[
             (
                 4,
                 Some("0 DISKFAULT\n0 4 NOTDEFINED\n0 4 NOTDEFINED\n"),
-                (6, 346),
+                (6, 360),
                 (AT_NONE, NEW),
             ),
             (
@@ -95,9 +95,9 @@ pub(crate) const COMMANDS: &[Row] = &[
             Call::Read,
             Call::Read,
             Call::Read,
-            Call::Write(427, 459),
+            Call::Write(441, 473),
             Call::Sync,
-            Call::Write(426, 427),
+            Call::Write(440, 441),
             Call::Sync,
         ],
         parts: &[
@@ -105,7 +105,7 @@ pub(crate) const COMMANDS: &[Row] = &[
             (
                 4,
                 Some("1 DISKFAULT\n1 4 NOTDEFINED\n1 0 VERIFIED\n"),
-                (6, 426),
+                (6, 440),
                 (AT_JOE, ((First, JOE), (Second, EMPTY))),
             ),
             (
@@ -138,9 +138,9 @@ pub(crate) const COMMANDS: &[Row] = &[
             Call::Read,
             Call::Read,
             Call::Read,
-            Call::Write(507, 539),
+            Call::Write(521, 553),
             Call::Sync,
-            Call::Write(506, 507),
+            Call::Write(520, 521),
             Call::Sync,
         ],
         parts: &[
@@ -148,7 +148,7 @@ pub(crate) const COMMANDS: &[Row] = &[
             (
                 4,
                 Some("2 DISKFAULT\n2 4 NOTDEFINED\n2 0 VERIFIED\n"),
-                (6, 506),
+                (6, 520),
                 (AT_BOTH, ((Third, EMPTY), (Second, BOB))),
             ),
             (
@@ -181,9 +181,9 @@ pub(crate) const COMMANDS: &[Row] = &[
             Call::Read,
             Call::Read,
             Call::Read,
-            Call::Write(427, 459),
+            Call::Write(441, 473),
             Call::Sync,
-            Call::Write(426, 427),
+            Call::Write(440, 441),
             Call::Sync,
         ],
         parts: &[
@@ -196,7 +196,7 @@ pub(crate) const COMMANDS: &[Row] = &[
             (
                 4,
                 Some("1 DISKFAULT\n1 4 NOTDEFINED\n1 0 VERIFIED\n"),
-                (6, 426),
+                (6, 440),
                 (AT_JOE, ((LastButOne, JOE), (Last, EMPTY))),
             ),
             (
@@ -256,7 +256,7 @@ pub(crate) const COMPACTIONS: &[Row] = &[
             Call::Read,
             Call::Cut(9),
             Call::Write(9, 33),
-            Call::Write(33, 427),
+            Call::Write(33, 441),
             Call::Sync,
             Call::Write(8, 9),
             Call::Sync,
@@ -296,7 +296,7 @@ pub(crate) const COMPACTIONS: &[Row] = &[
             Call::Sync,
             Call::Cut(9),
             Call::Write(9, 33),
-            Call::Write(33, 507),
+            Call::Write(33, 521),
             Call::Sync,
             Call::Write(8, 9),
             Call::Sync,
@@ -354,7 +354,7 @@ pub(crate) const LAST_EPOCHS: &[Row] = &[
             Call::Read,
             Call::Cut(9),
             Call::Write(9, 33),
-            Call::Write(33, 427),
+            Call::Write(33, 441),
             Call::Sync,
             Call::Write(8, 9),
             Call::Sync,

@@ -7,7 +7,7 @@ use Rattle.generic_names.specs.Resolve.{resolve}
 use Rattle.generic_names.specs.Covers.{covers}
 use Rattle.generic_names.specs.Best.{most_specific}
 use Rattle.racf_profiles.specs.declared.profiles.Member.{Member}
-use Rattle.racf_profiles.specs.declared.profiles.Member.TheVariants.{Access, SecurityLevel, Category}
+use Rattle.racf_profiles.specs.declared.profiles.Member.TheVariants.{Access, SecurityLevel, Category, Traits}
 use Rattle.racf_profiles.specs.LawfulProfiles.{is_of_kind}
 use Rattle.global_table.specs.declared.table.Grant.{Grant}
 use Rattle.global_table.specs.declared.table.Resolved.{Resolved}
@@ -19,6 +19,7 @@ module _ (user group : List ℕ) where
   abbrev pub resolved : (place : ℕ) → Member → Option Resolved
   resolved place (Access name level) = option_map (λ pattern. record { name = pattern; level = level; place = place }) (resolve name user group)
   resolved place (SecurityLevel name number) = None
+  resolved place (Traits traits) = None
   resolved place (Category name) = None
 
   abbrev pub in_front : Option Resolved → List Resolved → List Resolved

@@ -88,7 +88,7 @@ fn may_cover(member: &Member, name: &Resource) -> bool
 {
     match member {
         Member::Access(pattern, _) => may_begin(pattern.text(), name.text()),
-        Member::SecurityLevel(..) | Member::Category(_) => false,
+        Member::SecurityLevel(..) | Member::Category(_) | Member::Traits(_) => false,
     }
 }
 
@@ -127,7 +127,7 @@ fn as_it_counts(member: &Member, place: usize, user: Id, group: Id) -> Option<Re
             level: *level,
             place,
         }),
-        Member::SecurityLevel(..) | Member::Category(_) => None,
+        Member::SecurityLevel(..) | Member::Category(_) | Member::Traits(_) => None,
     }
 }
 

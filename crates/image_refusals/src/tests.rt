@@ -178,7 +178,7 @@ impl Resources {
 /// Whether the class and its profiles are those that the commands made.
 fn has_profiles(image: &Image, asked: &Resources) -> bool {
     let class = FixedClass::Facility.id();
-    let (Some(flags), Some(profiles)) = (image.class(class), image.effective(class)) else {
+    let (Some(flags), Some(profiles)) = (image.class_flags(class), image.effective(class)) else {
         return false;
     };
     flags.active

@@ -56,10 +56,10 @@ fn read_by(both: bool, alloc: Global, image: &[u8]) -> Result<Rows, ImageFault> 
     }
 }
 
-/// Whether an image is read with this fault, or written again as it stands.
-fn is_read(both: bool, alloc: Global, image: &[u8], place: Option<u64>) -> bool {
+/// Whether an image is read with this fault, or written again as `again`.
+fn is_read(both: bool, alloc: Global, image: &[u8], place: Option<u64>, again: &[u8]) -> bool {
     match read_by(both, alloc, image) {
-        Ok(rows) => place.is_none() && is_written_again(alloc, &rows, image),
+        Ok(rows) => place.is_none() && is_written_again(alloc, &rows, again),
         Err(ImageFault::BadField(found)) => place == Some(found),
         Err(ImageFault::NoMemory) => false,
     }
@@ -71,9 +71,10 @@ fn is_right(both: bool, alloc: Global, row: &[u8]) -> bool {
     let (Some(place), Some(digits)) = (parts.next(), parts.next()) else {
         return false;
     };
-    match bytes_of(alloc, digits) {
-        Ok(image) => is_read(both, alloc, &image, place_of(place)),
-        Err(_) => false,
+    let again = parts.next().unwrap_or(digits);
+    match (bytes_of(alloc, digits), bytes_of(alloc, again)) {
+        (Ok(image), Ok(again)) => is_read(both, alloc, &image, place_of(place), &again),
+        (Ok(_) | Err(_), _) => false,
     }
 }
 
@@ -106,7 +107,7 @@ fn length_of_new(alloc: Global) -> Option<usize> {
     let Ok(image) = write(alloc, &rows) else {
         return None;
     };
-    if is_read(true, alloc, &image, None) {
+    if is_read(true, alloc, &image, None, &image) {
         Some(image.len())
     } else {
         None
@@ -115,5 +116,5 @@ fn length_of_new(alloc: Global) -> Option<usize> {
 
 #[test]
 fn a_new_database(rt: HostRuntime) {
-    assert_eq!(rt; length_of_new(rt.alloc()), Some(313));
+    assert_eq!(rt; length_of_new(rt.alloc()), Some(327));
 }

@@ -1,5 +1,5 @@
 -- What the spelling of a command's fields says of the rows that the command leaves.
-use Rattle.std.proofs.Common.{◌≡◌, ℕ, length, Bool, true, false, cond, ◌&&◌, ◌||◌, List, [], ◌∷◌, Option, None, Some, Result, Ok, Err, is_ok, bytes_eq, codes, refl, sym, ap, ◌∙◌, true≢false}
+use Rattle.std.proofs.Common.{◌≡◌, ℕ, length, Bool, true, false, cond, ◌&&◌, ◌||◌, List, [], ◌∷◌, Option, None, Some, Result, Ok, Err, is_ok, bytes_eq, codes, refl, sym, ap, subst, ◌∙◌, true≢false}
 use Rattle.std.specs.Prelude.{nat_le, IfSome}
 use Rattle.std.specs.List.{AllByRecursion, list_all}
 use Rattle.std.specs.Result.{result_ok}
@@ -17,10 +17,9 @@ use Rattle.generic_names.specs.Faults.{pattern_of, member_of, unless}
 use Rattle.generic_names.specs.Laws.{IsPattern, ReadsBack}
 use Rattle.racf_profiles.specs.declared.profiles.AuditRule.{AuditRule}
 use Rattle.racf_profiles.specs.declared.profiles.Member.{Member}
-use Rattle.racf_profiles.specs.declared.profiles.Member.TheVariants.{Access, SecurityLevel, Category}
+use Rattle.racf_profiles.specs.declared.profiles.Member.TheVariants.{Access, SecurityLevel, Category, Traits}
 use Rattle.racf_profiles.specs.declared.fixed_classes.FixedClass.{FixedClass}
-use Rattle.racf_profiles.specs.declared.fixed_classes.FixedClass.TheVariants.{Dataset, Secdata, Seclabel, Global}
-use Rattle.racf_profiles.specs.declared.fixed_classes.FixedClass.TheVariants as fixed_names
+use Rattle.racf_profiles.specs.declared.fixed_classes.FixedClass.TheVariants.{Dataset, Secdata, Seclabel, Global, Cdt}
 use Rattle.command_fields.specs.Classes.{cdt}
 use Rattle.racf_profiles.specs.declared.fixed_classes.NameForm.{NameForm}
 use Rattle.racf_profiles.specs.declared.fixed_classes.NameForm.TheVariants as names
@@ -96,22 +95,13 @@ labelled (Some other) name h =
     let parts = where-true (is_generic other || is_ok (id_of other.text)) (Some other) name h in
     (parts.1, let it : other ≡ name = (let e = parts.1 in cc) in ap (λ (n : Spelled). is_generic n || is_ok (id_of n.text)) (sym it) ∙ parts.0)
 
--- none of the fixed classes is CDT
-not-cdt : (fixed : FixedClass) → bytes_eq (class_name fixed) cdt ≡ false
-not-cdt fixed_names.Dataset = refl
-not-cdt fixed_names.Facility = refl
-not-cdt fixed_names.Terminal = refl
-not-cdt fixed_names.Console = refl
-not-cdt fixed_names.Jesinput = refl
-not-cdt fixed_names.Appcport = refl
-not-cdt fixed_names.Appl = refl
-not-cdt fixed_names.Opercmds = refl
-not-cdt fixed_names.Surrogat = refl
-not-cdt fixed_names.Tapevol = refl
-not-cdt fixed_names.Dasdvol = refl
-not-cdt fixed_names.Secdata = refl
-not-cdt fixed_names.Seclabel = refl
-not-cdt fixed_names.Global = refl
+-- a profile in CDT has an ID's spelling
+pub class-spelled : (name : Spelled) → IsClassProfile cdt name → is_ok (id_of name.text) ≡ true
+unfolding form_in
+class-spelled name h = (where-true (is_ok (id_of name.text)) (general_profile name.text) name h).0
+
+pub class-spelled_if : (class : List ℕ) (name : Spelled) → IsClassProfile class name → bytes_eq class cdt ≡ true → is_ok (id_of name.text) ≡ true
+class-spelled_if class name h own = class-spelled name (subst (λ n. IsClassProfile n name) (same class cdt own) h)
 
 -- the name of a profile of a class, by the form that the class's names have
 module _ (class : List ℕ) (name : Spelled) (is : IsClassProfile class name) where
@@ -128,28 +118,28 @@ module _ (class : List ℕ) (name : Spelled) (is : IsClassProfile class name) wh
   pub class_profile-lawful : ReadsBack → IsPattern name × (name.kind ≡ General)
   class_profile-lawful reads_back = general-lawful reads_back name general-profile
 
-  by_form : (fixed : FixedClass) → class ≡ class_name fixed → profile_in (general_form (facts_of_class fixed).names) name.text ≡ Some name
+  by_form : bytes_eq class cdt ≡ false → (fixed : FixedClass) → class ≡ class_name fixed → profile_in (general_form (facts_of_class fixed).names) name.text ≡ Some name
   unfolding form_in
-  by_form fixed named =
-      let other : bytes_eq class cdt ≡ false = ap (λ c. bytes_eq c cdt) named ∙ not-cdt fixed in
+  by_form other fixed named =
       let is_form : profile_in (general_form (form_of (facts_of class))) name.text ≡ Some name = sym (ap (λ c. profile_in (general_form (cond c names.Class (form_of (facts_of class)))) name.text) other) ∙ is in
       sym (ap (λ o. profile_in (general_form (form_of o)) name.text) (ap facts_of named ∙ facts_of-each fixed)) ∙ is_form
 
-  pub class_profile-spelled : (fixed : FixedClass) → class ≡ class_name fixed → bytes_eq class dataset ≡ false → is_spelled_by (facts_of_class fixed).names name ≡ true
-  class_profile-spelled fixed named other = by fixed named (by_form fixed named)
+  pub class_profile-spelled : bytes_eq class cdt ≡ false → (fixed : FixedClass) → class ≡ class_name fixed → bytes_eq class dataset ≡ false → is_spelled_by (facts_of_class fixed).names name ≡ true
+  class_profile-spelled chosen fixed named other = by fixed named (by_form chosen fixed named)
     where
       by : (f : FixedClass) → class ≡ class_name f → profile_in (general_form (facts_of_class f).names) name.text ≡ Some name → is_spelled_by (facts_of_class f).names name ≡ true
       by Dataset n h = absurd (true≢false (sym (itself dataset) ∙ ap (λ c. bytes_eq c dataset) (sym n) ∙ other))
       by Secdata n h = (where-true (is_level_or_category name.text) (general_profile name.text) name h).0
       by Seclabel n h = (labelled (general_profile name.text) name h).1
       by Global n h = (where-true (is_ok (id_of name.text)) (general_profile name.text) name h).0
+      by Cdt n h = absurd (true≢false (sym (itself cdt) ∙ ap (λ c. bytes_eq c cdt) (sym n) ∙ chosen))
       by general n h = refl
 
   -- ---- members
   -- a profile of SECDATA has one of two names
   secdata-named : bytes_eq class (codes "SECDATA") ≡ true → bytes_eq name.text (codes "SECLEVEL") ≡ false → bytes_eq name.text (codes "CATEGORY") ≡ true
   secdata-named secdata other =
-      let one = (where-true (is_level_or_category name.text) (general_profile name.text) name (by_form Secdata (same class (codes "SECDATA") secdata))).0 in
+      let one = (where-true (is_level_or_category name.text) (general_profile name.text) name (by_form (ap (λ c. bytes_eq c cdt) (same class (codes "SECDATA") secdata)) Secdata (same class (codes "SECDATA") secdata))).0 in
       sym (ap (λ b. b || bytes_eq name.text (codes "CATEGORY")) other) ∙ one
 
   member-kind : (kind : NameKind) (resources : Spelled) → result_ok (member_of kind resources.text) ≡ Some resources → resources.kind ≡ kind
@@ -170,6 +160,7 @@ module _ (class : List ℕ) (name : Spelled) (is : IsClassProfile class name) wh
   global-fitting (Access resources level) global h = access-fitting resources level global h
   global-fitting (SecurityLevel other number) global h = absurd h
   global-fitting (Category other) global h = absurd h
+  global-fitting (Traits traits) global h = absurd h
 
   secdata-fitting : (member : Member) → bytes_eq class (codes "SECDATA") ≡ true → IsMember (secdata_form name.text) member → is_fitting class name.text member ≡ true
   secdata-fitting (Access resources level) secdata h = absurd (by (bytes_eq name.text (codes "SECLEVEL")) h)
@@ -187,6 +178,11 @@ module _ (class : List ℕ) (name : Spelled) (is : IsClassProfile class name) wh
       by : (b : Bool) → IsMember (cond b forms.SecurityLevel forms.Category) (SecurityLevel other number) → (b && nat_le 1 number && nat_le number 254) ≡ true
       by true k = numbered (nat_le 1 number) (nat_le number 254) k.1
       by false k = absurd k
+  secdata-fitting (Traits traits) secdata h = absurd (by (bytes_eq name.text (codes "SECLEVEL")) h)
+    where
+      by : (b : Bool) → IsMember (cond b forms.SecurityLevel forms.Category) (Traits traits) → ⊥
+      by true k = k
+      by false k = k
   secdata-fitting (Category other) secdata h = ap (λ b. b && bytes_eq name.text (codes "CATEGORY")) secdata ∙ by (bytes_eq name.text (codes "SECLEVEL")) refl h
     where
       by : (b : Bool) → bytes_eq name.text (codes "SECLEVEL") ≡ b → IsMember (cond b forms.SecurityLevel forms.Category) (Category other) → bytes_eq name.text (codes "CATEGORY") ≡ true

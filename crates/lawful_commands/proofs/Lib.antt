@@ -1,3 +1,5 @@
+pub mod ClassTraits
+pub mod ClassLists
 pub mod RowLists
 pub mod Kept
 pub mod UserRows
@@ -9,6 +11,8 @@ pub mod MemberLists
 pub mod EntryLists
 pub mod ProfileNames
 pub mod ProfileCommands
+pub mod ClassCommands
+pub mod ClassDeletions
 pub mod FieldFacts
 pub mod OptionCommands
 pub mod EachCommand

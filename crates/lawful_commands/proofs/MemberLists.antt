@@ -1,13 +1,14 @@
 -- The members of a profile, and the categories that they define, after ADDMEM and DELMEM.
-use Rattle.std.proofs.Common.{◌≡◌, ℕ, ◌≤◌, Bool, true, false, cond, not, ◌&&◌, ◌||◌, List, [], ◌∷◌, ◌++◌, length, map, fold, bytes_eq, codes, refl, sym, ap, subst, ◌∙◌, arith, length-append}
+use Rattle.std.proofs.Common.{◌≡◌, ℕ, ◌≤◌, Bool, true, false, cond, not, ◌&&◌, ◌||◌, List, [], ◌∷◌, ◌++◌, length, map, fold, is_some, bytes_eq, codes, refl, sym, ap, subst, ◌∙◌, arith, length-append}
 use Rattle.std.specs.Prelude.{nat_le}
 use Rattle.std.specs.List.{AllByRecursion, IsDistinct, list_any, list_all}
 use Rattle.std.proofs.lemmas.Bool.{or_right}
 use Rattle.generic_names.specs.Spelled.{Spelled}
 use Rattle.racf_profiles.specs.declared.profiles.Profile.{Profile}
 use Rattle.racf_profiles.specs.declared.profiles.Member.{Member}
-use Rattle.racf_profiles.specs.declared.profiles.Member.TheVariants.{Access, SecurityLevel, Category}
+use Rattle.racf_profiles.specs.declared.profiles.Member.TheVariants.{Access, SecurityLevel, Category, Traits}
 use Rattle.racf_profiles.specs.declared.options.Options.{Options}
+use Rattle.racf_profiles.specs.DynamicClasses.{cdt, traits_of}
 use Rattle.racf_profiles.specs.Limits.{most_members, most_categories}
 use Rattle.racf_profiles.specs.LawfulProfiles.{AreMembers, member_name as name_of, is_member_of, is_of_kind, kind_in}
 use Rattle.racf_profiles.specs.Lawful.{AreCategories}
@@ -48,6 +49,7 @@ pub record Grows (old new : List (List ℕ)) : Type 0 where
 grows-with : (names : List (List ℕ)) (member : Member) → Grows names (with_category_name names member)
 grows-with names (Access resources level) = record { longer = omega arith; kept = λ name h. h }
 grows-with names (SecurityLevel name number) = record { longer = omega arith; kept = λ other h. h }
+grows-with names (Traits traits) = record { longer = omega arith; kept = λ other h. h }
 grows-with names (Category name) = record { longer = (grows-with_class names name).0; kept = (grows-with_class names name).1 }
 
 pub grows-defined : (added : List Member) (names : List (List ℕ)) → Grows names (categories_defined added names)
@@ -60,6 +62,7 @@ grows-defined (member ∷ added) names =
 distinct-with : (names : List (List ℕ)) (member : Member) → IsDistinct bytes_eq names → IsDistinct bytes_eq (with_category_name names member)
 distinct-with names (Access resources level) d = d
 distinct-with names (SecurityLevel name number) d = d
+distinct-with names (Traits traits) d = d
 distinct-with names (Category name) d = distinct-with_class name names d
 
 distinct-defined : (added : List Member) (names : List (List ℕ)) → IsDistinct bytes_eq names → IsDistinct bytes_eq (categories_defined added names)
@@ -78,21 +81,25 @@ abbrev pub is_fitting : (class profile : List ℕ) → Member → Bool
 is_fitting class profile (Access resources level) = bytes_eq class (codes "GLOBAL") && is_of_kind (kind_in profile) resources.kind
 is_fitting class profile (SecurityLevel name number) = bytes_eq class (codes "SECDATA") && bytes_eq profile (codes "SECLEVEL") && nat_le 1 number && nat_le number 254
 is_fitting class profile (Category name) = bytes_eq class (codes "SECDATA") && bytes_eq profile (codes "CATEGORY")
+is_fitting class profile (Traits traits) = bytes_eq class cdt && nat_le 1 traits.longest && nat_le traits.longest 246
 
 -- its category is defined
 abbrev pub is_known : List (List ℕ) → Member → Bool
 is_known names (Access resources level) = true
 is_known names (SecurityLevel name number) = true
+is_known names (Traits traits) = true
 is_known names (Category name) = list_any (λ other. bytes_eq other name) names
 
 is_known-grown : (old new : List (List ℕ)) → Grows old new → (member : Member) → is_known old member ≡ true → is_known new member ≡ true
 is_known-grown old new grows (Access resources level) h = refl
 is_known-grown old new grows (SecurityLevel name number) h = refl
+is_known-grown old new grows (Traits traits) h = refl
 is_known-grown old new grows (Category name) h = grows.kept name h
 
 is_known-with : (names : List (List ℕ)) (member : Member) → is_known (with_category_name names member) member ≡ true
 is_known-with names (Access resources level) = refl
 is_known-with names (SecurityLevel name number) = refl
+is_known-with names (Traits traits) = refl
 is_known-with names (Category name) = defined-with_class names name
 
 known-defined : (added : List Member) (names : List (List ℕ)) → AllByRecursion (λ member. is_known (categories_defined added names) member ≡ true) added
@@ -105,6 +112,7 @@ known-defined (member ∷ added) names = (
 is_member-fitting : (options : Options) (class profile : List ℕ) (member : Member) → is_fitting class profile member ≡ true → is_known options.categories member ≡ true → is_member_of options class profile member ≡ true
 is_member-fitting options class profile (Access resources level) h k = h
 is_member-fitting options class profile (SecurityLevel name number) h k = h
+is_member-fitting options class profile (Traits traits) h k = h
 is_member-fitting options class profile (Category name) h k = ap (λ b. bytes_eq class (codes "SECDATA") && bytes_eq profile (codes "CATEGORY") && b) k ∙ both (bytes_eq class (codes "SECDATA")) (bytes_eq profile (codes "CATEGORY")) h
   where
     both : (a b : Bool) → (a && b) ≡ true → (a && b && true) ≡ true
@@ -116,6 +124,7 @@ same-named : (member : Member) → member_name member ≡ name_of member
 same-named (Access resources level) = refl
 same-named (SecurityLevel name number) = refl
 same-named (Category name) = refl
+same-named (Traits traits) = refl
 
 like-names : (a b c : List ℕ) → bytes_eq a b ≡ true → bytes_eq a c ≡ false → bytes_eq b c ≡ false
 like-names a b c e f = ap (λ n. bytes_eq n c) (sym (same a b e)) ∙ f
@@ -132,9 +141,9 @@ all-added P (member ∷ added) members a h = all-added P added (with_member memb
 
 -- ---- the members of a profile after ADDMEM and DELMEM
 module _ (options : Options) (class : List ℕ) (added : List Member) (gone : List Spelled) where
-  pub members-after : (old new : Profile) → new.members ≡ members_after added gone old.members → new.name ≡ old.name → AreMembers (options_after added options) class old
+  pub members-after : (old new : Profile) → new.members ≡ members_after added gone old.members → new.name ≡ old.name → AreMembers (options_after added options) class old → bytes_eq class cdt ≡ false
       → AllByRecursion (λ member. is_fitting class old.name.text member ≡ true) added → length new.members ≤ most_members → AreMembers (options_after added options) class new
-  members-after old new is keeps are fit few = record {
+  members-after old new is keeps are other fit few = record {
     distinct = subst (λ (members : List Member). IsDistinct bytes_eq (map name_of members)) (sym is)
         (distinct-added added (without_members gone old.members) (distinct-filter bytes_eq name_of (λ member. not (is_named_in gone member)) old.members are.distinct));
     fitting = ap (λ (members : List Member). list_all (is_member_of (options_after added options) class new.name.text) members) is
@@ -143,6 +152,7 @@ module _ (options : Options) (class : List ℕ) (added : List Member) (gone : Li
         (all-added (λ member. is_member_of (options_after added options) class old.name.text member ≡ true) added (without_members gone old.members) (fitting-added added fit (known-defined added options.categories))
         (all-filter (λ member. is_member_of (options_after added options) class old.name.text member ≡ true) (λ member. not (is_named_in gone member)) old.members (all-passes (is_member_of (options_after added options) class old.name.text) old.members are.fitting)));
     few = few;
+    traits = ap (λ b. not b || is_some (traits_of new.members)) other;
   }
     where
       fitting-added : (ms : List Member) → AllByRecursion (λ member. is_fitting class old.name.text member ≡ true) ms → AllByRecursion (λ member. is_known (categories_defined added options.categories) member ≡ true) ms

@@ -1,5 +1,5 @@
 -- The rows of a new database are lawful, whichever classes are active beside DATASET.
-use Rattle.std.proofs.Common.{◌≡◌, Bool, true, false, cond, not, ◌||◌, List, [], ◌∷◌, length, map, Option, None, Some, is_some, bytes_eq, codes, refl, sym, ap, ◌∙◌, true≢false, arith, zero-add}
+use Rattle.std.proofs.Common.{◌≡◌, Bool, true, false, cond, not, ◌||◌, List, [], ◌∷◌, length, map, Option, None, Some, is_some, bytes_eq, codes, refl, sym, ap, subst, ◌∙◌, true≢false, arith, zero-add}
 use Rattle.std.specs.Prelude.{sum_by}
 use Rattle.std.specs.List.{AllByRecursion}
 use Rattle.std.proofs.lemmas.List.Sums.{sum_by-cons}
@@ -12,10 +12,11 @@ use Rattle.racf_profiles.specs.ClassTable.{fixed_classes, class_name}
 use Rattle.racf_profiles.specs.NewDatabase.{sys1, ibmuser, empty_class, new_rows, no_options}
 use Rattle.racf_profiles.specs.Counts.{profile_count, entry_count, entries_in}
 use Rattle.racf_profiles.specs.Tree.{IsTree}
-use Rattle.racf_profiles.specs.LawfulProfiles.{AreProfiles, IsClass, kind_in}
+use Rattle.racf_profiles.specs.LawfulProfiles.{AreProfiles, AreClassNames, IsClass, kind_in}
 use Rattle.racf_profiles.specs.Lawful.{AreLawful}
 use Rattle.group_tree.proofs.Rows.{same}
-use Rattle.lawful_commands.proofs.RowLists.{distinct-none, distinct-one}
+use Rattle.lawful_commands.proofs.RowLists.{distinct-none, distinct-one, names-apart}
+use Rattle.lawful_commands.proofs.ClassLists.{find-push}
 use Rattle.lawful_commands.proofs.Kept.{defined-none}
 
 -- ---- SYS1 alone
@@ -37,6 +38,10 @@ one_group-tree = record {
       (λ none. sym (same sys1.id id one.0), λ is. ap (λ (g : Group). g.superior) one.1);
   upwards = λ id there. record { others = []; way = (there, sym (same sys1.id id (only_there (bytes_eq sys1.id id) there))) };
 }
+
+-- ---- the fixed classes are a class table
+fixed-names : AreClassNames (map class_name fixed_classes)
+fixed-names = record { fixed = refl; distinct = names-apart (map class_name fixed_classes) refl; few = omega arith }
 
 -- ---- classes without profiles
 module _ (is_active : FixedClass → Bool) where
@@ -94,8 +99,9 @@ module _ (is_active : FixedClass → Bool) where
     );
     special_user = refl;
     few_connections = omega arith;
-    classes = record { fixed = names-empty fixed_classes; lawful = profiles-empty fixed_classes };
+    classes = record { names = subst AreClassNames (sym (names-empty fixed_classes)) fixed-names; lawful = profiles-empty fixed_classes };
     each_class = each-empty active fixed_classes;
+    dynamic = record { defined = refl; there = refl };
     few_profiles = omega (arith, count-empty fixed_classes);
     few_entries = omega (arith, entries-empty fixed_classes);
     categories = record { distinct = distinct-none bytes_eq; few = omega arith };

@@ -1,6 +1,7 @@
 -- SETROPTS leaves lawful rows.
 use Rattle.std.proofs.Common.{◌≡◌, ℕ, ◌≤◌, ◌+◌, Bool, true, false, cond, ◌||◌, ◌&&◌, not, List, [], ◌∷◌, length, map, Option, None, Some, option_map, bytes_eq, codes, refl, sym, ap, subst, ◌∙◌, true≢false, arith}
 use Rattle.std.specs.Prelude.{find, sum_by}
+use Rattle.std.specs.Option.{option_map_or}
 use Rattle.std.proofs.lemmas.List.Sums.{sum_by-cons}
 use Rattle.racf_profiles.specs.declared.class_rows.ClassRow.{ClassRow}
 use Rattle.racf_profiles.specs.declared.options.Options.{Options}
@@ -18,6 +19,9 @@ use Rattle.command_rules.specs.OptionConflicts.{may_be_listed, always_active_cla
 use Rattle.command_rules.specs.Conflicts.{first_met}
 use Rattle.command_rules.proofs.Unmet.{each_unmet}
 use Rattle.lawful_commands.proofs.RowLists.{all-each, all-map}
+use Rattle.racf_profiles.specs.DynamicClasses.{cdt}
+use Rattle.racf_profiles.specs.Lookup.{is_class}
+use Rattle.lawful_commands.proofs.ClassTraits.{said_by}
 use Rattle.lawful_commands.proofs.Kept.{Extends, class-kept, classes-changed}
 
 pub unmapped : {X : Type 0} (f : X → Conflict) (o : Option X) → option_map f o ≡ None → o ≡ None
@@ -39,9 +43,9 @@ module _ (c : SetRopts) (rows : Rows) (free : first_met (set_ropts_conflicts c r
   unfolding set_ropts_conflicts always_active_class
   none-inactive = unmapped _ (find (bytes_eq dataset) c.noclassact) (each_unmet (set_ropts_conflicts c rows) free).1.1.1.1.1.1.1.1.1.1.1.0
 
-  none-listed : find (λ name. not (may_be_listed name)) (listed_anew c) ≡ None
+  none-listed : find (λ name. not (may_be_listed name rows)) (listed_anew c) ≡ None
   unfolding set_ropts_conflicts never_listed_class
-  none-listed = unmapped _ (find (λ name. not (may_be_listed name)) (listed_anew c)) (each_unmet (set_ropts_conflicts c rows) free).1.1.1.1.1.1.1.1.1.1.1.1.0
+  none-listed = unmapped _ (find (λ name. not (may_be_listed name rows)) (listed_anew c)) (each_unmet (set_ropts_conflicts c rows) free).1.1.1.1.1.1.1.1.1.1.1.1.0
 
   -- ---- DATASET stays active
   stays-active : (class : ClassRow) → (not (bytes_eq class.name (codes "DATASET")) || class.active) ≡ true → (not (bytes_eq class.name (codes "DATASET")) || (set_class c class).active) ≡ true
@@ -58,7 +62,7 @@ module _ (c : SetRopts) (rows : Rows) (free : first_met (set_ropts_conflicts c r
           on false active k = k
 
   -- ---- only what may be RACLISTed is
-  unless-new : (class : ClassRow) → may_be_listed class.name ≡ false → (names_class c.raclist class && not c.refresh) ≡ false
+  unless-new : (class : ClassRow) → may_be_listed class.name rows ≡ false → (names_class c.raclist class && not c.refresh) ≡ false
   unless-new class never = by c.refresh refl
     where
       by : (b : Bool) → c.refresh ≡ b → (names_class c.raclist class && not c.refresh) ≡ false
@@ -69,13 +73,13 @@ module _ (c : SetRopts) (rows : Rows) (free : first_met (set_ropts_conflicts c r
           and-false false = refl
       by false e =
           let names : listed_anew c ≡ c.raclist = ap (λ b. cond b [] c.raclist) e in
-          let none : find (λ name. not (may_be_listed name)) c.raclist ≡ None = ap (find (λ name. not (may_be_listed name))) (sym names) ∙ none-listed in
-          ap (λ b. b && not c.refresh) (never-named (λ name. not (may_be_listed name)) class (ap not never) c.raclist none)
+          let none : find (λ name. not (may_be_listed name rows)) c.raclist ≡ None = ap (find (λ name. not (may_be_listed name rows))) (sym names) ∙ none-listed in
+          ap (λ b. b && not c.refresh) (never-named (λ name. not (may_be_listed name rows)) class (ap not never) c.raclist none)
 
-  stays-listable : (class : ClassRow) → (not class.listed || may_be_listed class.name) ≡ true → (not (set_class c class).listed || may_be_listed class.name) ≡ true
-  stays-listable class is = by (may_be_listed class.name) refl is
+  stays-listable : (class : ClassRow) → (not class.listed || may_be_listed class.name rows) ≡ true → (not (set_class c class).listed || may_be_listed class.name rows) ≡ true
+  stays-listable class is = by (may_be_listed class.name rows) refl is
     where
-      by : (b : Bool) → may_be_listed class.name ≡ b → (not class.listed || b) ≡ true → (not (set_class c class).listed || b) ≡ true
+      by : (b : Bool) → may_be_listed class.name rows ≡ b → (not class.listed || b) ≡ true → (not (set_class c class).listed || b) ≡ true
       by true e h = or-true (not (set_class c class).listed)
         where
           or-true : (b : Bool) → (b || true) ≡ true
@@ -96,6 +100,17 @@ module _ (c : SetRopts) (rows : Rows) (free : first_met (set_ropts_conflicts c r
   names-set [] = refl
   names-set (class ∷ classes) = ap (λ names. class.name ∷ names) (names-set classes)
 
+  -- the classes keep their profiles, so what CDT says stays
+  said-set : (classes : List ClassRow) → map said_by (option_map_or (λ (row : ClassRow). row.profiles) (find (is_class cdt) (map (set_class c) classes)) []) ≡ map said_by (option_map_or (λ (row : ClassRow). row.profiles) (find (is_class cdt) classes) [])
+  said-set [] = refl
+  said-set (class ∷ classes) = by (is_class cdt class) (said-set classes)
+    where
+      by : (b : Bool) → map said_by (option_map_or (λ (row : ClassRow). row.profiles) (find (is_class cdt) (map (set_class c) classes)) []) ≡ map said_by (option_map_or (λ (row : ClassRow). row.profiles) (find (is_class cdt) classes) [])
+          → map said_by (option_map_or (λ (row : ClassRow). row.profiles) (cond b (Some (set_class c class)) (find (is_class cdt) (map (set_class c) classes))) [])
+          ≡ map said_by (option_map_or (λ (row : ClassRow). row.profiles) (cond b (Some class) (find (is_class cdt) classes)) [])
+      by true rest = refl
+      by false rest = rest
+
   sum-set : (weight : ClassRow → ℕ) → ((class : ClassRow) → weight (set_class c class) ≡ weight class) → (classes : List ClassRow) → sum_by weight (map (set_class c) classes) ≡ sum_by weight classes
   sum-set weight keeps [] = refl
   sum-set weight keeps (class ∷ classes) =
@@ -109,10 +124,10 @@ module _ (c : SetRopts) (rows : Rows) (free : first_met (set_ropts_conflicts c r
   set_ropts-lawful lawful =
       let options : Options = set_options c rows.options in
       let set : Rows = record rows { options = options } in
-      classes-changed rows (map (set_class c) rows.classes) options lawful (names-set rows.classes)
+      classes-changed rows (map (set_class c) rows.classes) options lawful (names-set rows.classes) (said-set rows.classes)
       (all-map (set_class c) (λ (class : ClassRow). AreProfiles (kind_in class.name) class.profiles) rows.classes lawful.classes.lawful)
       (all-map (set_class c) (IsClass set) rows.classes
-      (all-each (IsClass rows) (λ class. IsClass set (set_class c class)) (λ class is. class-kept rows set (λ name. refl) same_categories (set_class c class) (class-lawful class is)) rows.classes lawful.each_class))
+      (all-each (IsClass rows) (λ class. IsClass set (set_class c class)) (λ class is. class-kept rows set (λ name h. h) same_categories (set_class c class) refl (class-lawful class is)) rows.classes lawful.each_class))
       (subst (λ n. n ≤ 100000) (sym (sum-set (λ (class : ClassRow). length class.profiles) (λ class. refl) rows.classes)) lawful.few_profiles)
       (subst (λ n. n ≤ 1000000) (sym (sum-set (λ (class : ClassRow). sum_by entries_in class.profiles) (λ class. refl) rows.classes)) lawful.few_entries)
       same_categories

@@ -1,5 +1,5 @@
 -- The commands on profiles leave lawful rows.
-use Rattle.std.proofs.Common.{◌≡◌, ℕ, ◌≤◌, true, false, cond, not, ◌&&◌, ◌||◌, List, [], length, map, Option, None, Some, is_ok, bytes_eq, refl, sym, ap, subst, ◌∙◌, arith}
+use Rattle.std.proofs.Common.{◌≡◌, ℕ, ◌≤◌, true, false, cond, not, ◌&&◌, ◌||◌, List, [], length, map, Option, None, Some, is_ok, bytes_eq, refl, sym, ap, subst, ◌∙◌, true≢false, arith}
 use Rattle.std.specs.Prelude.{unwrap_or, IfSome}
 use Rattle.std.specs.List.{AllByRecursion, IsDistinct}
 use Rattle.std.specs.Option.{option_map_or, option_and_then}
@@ -16,7 +16,9 @@ use Rattle.racf_profiles.specs.declared.profiles.AuditRule.{AuditRule}
 use Rattle.racf_profiles.specs.declared.class_rows.ClassRow.{ClassRow}
 use Rattle.racf_profiles.specs.declared.fixed_classes.FixedClass.{FixedClass}
 use Rattle.racf_profiles.specs.declared.rows.Rows.{Rows}
-use Rattle.racf_profiles.specs.ClassTable.{class_name, facts_of_class, facts_of}
+use Rattle.racf_profiles.specs.ClassTable.{class_name, facts_of_class}
+use Rattle.racf_profiles.specs.DynamicClasses.{cdt, facts_in}
+use Rattle.lawful_commands.proofs.ClassTraits.{said-elsewhere}
 use Rattle.racf_profiles.specs.Lookup.{is_profile, class_of, profile_of}
 use Rattle.racf_profiles.specs.Counts.{profile_count, entry_count}
 use Rattle.racf_profiles.specs.Edits.{put_profile, with_profile}
@@ -54,7 +56,7 @@ audit-given : (given : Option AuditRule) (old : AuditRule) → IfSome given (λ 
 audit-given None old h k = k
 audit-given (Some rule) old h k = h
 
-no-entries : (profile : Profile) → profile.standard ≡ [] → profile.conditional ≡ [] → AreEntries profile
+pub no-entries : (profile : Profile) → profile.standard ≡ [] → profile.conditional ≡ [] → AreEntries profile
 no-entries profile standard conditional = record {
   distinct = subst (λ (list : List Entry). IsDistinct is_same_who (map (λ (entry : Entry). entry.who) list)) (sym standard) (distinct-none is_same_who);
   few = omega (arith, ap length standard);
@@ -63,11 +65,11 @@ no-entries profile standard conditional = record {
 }
 
 -- ---- limits
-few-in_class : (issuer : Issuer) (c : CommandFields) (class : List ℕ) (rows : Rows) → class_profiles_full issuer c class rows ≡ None → length (profiles_in class (step issuer c rows)) ≤ 50000
+pub few-in_class : (issuer : Issuer) (c : CommandFields) (class : List ℕ) (rows : Rows) → class_profiles_full issuer c class rows ≡ None → length (profiles_in class (step issuer c rows)) ≤ 50000
 unfolding class_profiles_full
 few-in_class issuer c class rows h = within ClassProfiles 50000 _ h
 
-few-profiles : (issuer : Issuer) (c : CommandFields) (rows : Rows) → profiles_full issuer c rows ≡ None → profile_count (step issuer c rows).classes ≤ 100000
+pub few-profiles : (issuer : Issuer) (c : CommandFields) (rows : Rows) → profiles_full issuer c rows ≡ None → profile_count (step issuer c rows).classes ≤ 100000
 unfolding profiles_full
 few-profiles issuer c rows h = within Profiles 100000 _ h
 
@@ -92,10 +94,10 @@ module _ (one : OneIsBefore) (puts : PutsAreCounted) (passed_on : PassedOn) wher
 
     new_data_set-lawful : IsProfile rows dataset (new_data_set issuer c rows)
     new_data_set-lawful = record {
-      name = ap (λ b. b && (not (is_generic c.profile) || true)) spelled ∙ or_right (not (is_generic c.profile)) true refl;
+      name = ap (λ b. b && (true && (not (is_generic c.profile) || true))) spelled ∙ or_right (not (is_generic c.profile)) true refl;
       entries = no-entries (new_data_set issuer c rows) refl refl;
       audit = and_from (is_audit (unwrap_or c.audit failures_from_read)) true (audit-given c.audit failures_from_read audit refl) refl;
-      members = record { distinct = distinct-none bytes_eq; fitting = refl; few = omega arith };
+      members = record { distinct = distinct-none bytes_eq; fitting = refl; few = omega arith; traits = refl };
       categories = defined-added rows c.addcategory 0 (defined-none rows.options);
     }
 
@@ -107,6 +109,7 @@ module _ (one : OneIsBefore) (puts : PutsAreCounted) (passed_on : PassedOn) wher
         (few-profiles issuer (command.AddSd c) rows tests-add.1.1.1.1.1.1.1.0)
         (entries-put one puts passed_on rows dataset (new_data_set issuer c rows) lawful kind refl)
         lawful.each_class (extends_itself rows.options) lawful.categories
+        (said-elsewhere dataset (with_profile (new_data_set issuer c rows)) (λ row. refl) rows (step issuer (command.AddSd c) rows) refl refl)
 
   -- ---- ALTDSD
   module _ (issuer : Issuer) (c : AltSd) (rows : Rows) (lawful : AreLawful rows)
@@ -118,7 +121,7 @@ module _ (one : OneIsBefore) (puts : PutsAreCounted) (passed_on : PassedOn) wher
       audit = and_from (is_audit (unwrap_or c.audit old.audit)) (is_audit (unwrap_or c.globalaudit old.global_audit))
           (audit-given c.audit old.audit audit ((and_parts (is_audit old.audit) (is_audit old.global_audit) is.audit).0))
           (audit-given c.globalaudit old.global_audit global_audit ((and_parts (is_audit old.audit) (is_audit old.global_audit) is.audit).1));
-      members = record { distinct = is.members.distinct; fitting = is.members.fitting; few = is.members.few };
+      members = record { distinct = is.members.distinct; fitting = is.members.fitting; few = is.members.few; traits = is.members.traits };
       categories = defined-added rows c.addcategory _ (defined-taken rows c.delcategory old.categories is.categories);
     }
 
@@ -126,9 +129,11 @@ module _ (one : OneIsBefore) (puts : PutsAreCounted) (passed_on : PassedOn) wher
     alt_sd-lawful =
         profile-changed-alone one puts passed_on rows dataset c.profile (altered_data_set c rows) lawful (λ p. refl) altered_data_set-lawful
         (entries-changed one puts passed_on rows dataset c.profile (altered_data_set c rows) lawful (λ p. refl) (λ p. omega arith))
+        (λ own p. refl)
 
   -- ---- RDEFINE
   module _ (issuer : Issuer) (c : RDefine) (rows : Rows) (lawful : AreLawful rows) (pattern : IsPattern c.profile) (general : c.profile.kind ≡ General)
+      (chosen : bytes_eq c.class cdt ≡ false)
       (spelled : (fixed : FixedClass) → c.class ≡ class_name fixed → bytes_eq c.class dataset ≡ false → is_spelled_by (facts_of_class fixed).names c.profile ≡ true)
       (audit : IfSome c.audit (λ rule. is_audit rule ≡ true)) (fit : AllByRecursion (λ member. is_fitting c.class c.profile.text member ≡ true) c.addmem)
       (met : first_met (r_define_conflicts issuer c rows) ≡ None) where
@@ -145,12 +150,12 @@ module _ (one : OneIsBefore) (puts : PutsAreCounted) (passed_on : PassedOn) wher
     new_resource-lawful : (row : ClassRow) → class_of c.class rows ≡ Some row → IsProfile (record rows { options = options_after c.addmem rows.options }) c.class (new_resource issuer c rows)
     unfolding r_define_requirements r_define_limits tests-define
     new_resource-lawful row found = record {
-      name = sym (name-kept rows (record rows { options = options_after c.addmem rows.options }) (λ name. refl) extends c.profile (facts_of c.class))
-          ∙ is_profile_name-new rows c.class c.profile lawful.classes spelled tests-define.1.0 tests-define.1.1.0 tests-define.1.1.1.1.0;
+      name = name-kept rows (record rows { options = options_after c.addmem rows.options }) (λ name h. h) extends c.profile (facts_in c.class rows)
+          (is_profile_name-new rows c.class c.profile lawful chosen spelled tests-define.1.0 tests-define.1.1.0 tests-define.1.1.1.1.0 tests-define.1.1.1.1.1.1.1.1.1.1.1.1.0);
       entries = no-entries (new_resource issuer c rows) refl refl;
       audit = and_from (is_audit (unwrap_or c.audit failures_from_read)) true (audit-given c.audit failures_from_read audit refl) refl;
       members = members-after rows.options c.class c.addmem [] (record (new_resource issuer c rows) { members = [] }) (new_resource issuer c rows) refl refl
-          (record { distinct = distinct-none bytes_eq; fitting = refl; few = omega arith }) fit
+          (record { distinct = distinct-none bytes_eq; fitting = refl; few = omega arith; traits = ap (λ b. not b || false) chosen }) chosen fit
           (few-members issuer (command.RDefine c) c.class c.profile rows (new_resource issuer c rows) tests-define.1.1.1.1.1.1.1.1.1.1.0 (profile-put c.class (new_resource issuer c rows) row rows.classes found));
       categories = defined-kept rows.options (options_after c.addmem rows.options) extends _ (defined-added rows c.addcategory 0 (defined-none rows.options));
     }
@@ -162,12 +167,13 @@ module _ (one : OneIsBefore) (puts : PutsAreCounted) (passed_on : PassedOn) wher
         (λ row found. subst (λ (ps : List Profile). length ps ≤ 50000) (profiles-put c.class (new_resource issuer c rows) rows row found) (few-in_class issuer (command.RDefine c) c.class rows tests-define.1.1.1.1.1.1.1.1.0))
         (few-profiles issuer (command.RDefine c) rows tests-define.1.1.1.1.1.1.1.1.1.0)
         (entries-put one puts passed_on rows c.class (new_resource issuer c rows) lawful kind refl)
-        (all-each (IsClass rows) (IsClass (record rows { options = options_after c.addmem rows.options })) (class-kept rows (record rows { options = options_after c.addmem rows.options }) (λ name. refl) extends) rows.classes lawful.each_class)
+        (all-each (IsClass rows) (IsClass (record rows { options = options_after c.addmem rows.options })) (λ class is. class-kept rows (record rows { options = options_after c.addmem rows.options }) (λ name h. h) extends class refl is) rows.classes lawful.each_class)
         extends
         (categories-after c.addmem rows.options lawful.categories (few-categories issuer (command.RDefine c) rows tests-define.1.1.1.1.1.1.1.1.1.1.1.0))
+        (said-elsewhere c.class (with_profile (new_resource issuer c rows)) (λ row. refl) rows (step issuer (command.RDefine c) rows) refl chosen)
 
   -- ---- RALTER
-  module _ (issuer : Issuer) (c : RAlter) (rows : Rows) (lawful : AreLawful rows)
+  module _ (issuer : Issuer) (c : RAlter) (rows : Rows) (lawful : AreLawful rows) (chosen : bytes_eq c.class cdt ≡ false)
       (audit : IfSome c.audit (λ rule. is_audit rule ≡ true)) (global_audit : IfSome c.globalaudit (λ rule. is_audit rule ≡ true)) (fit : AllByRecursion (λ member. is_fitting c.class c.profile.text member ≡ true) c.addmem)
       (met : first_met (r_alter_conflicts issuer c rows) ≡ None) where
     tests-alter : AreUnmet (r_alter_conflicts issuer c rows)
@@ -180,7 +186,7 @@ module _ (one : OneIsBefore) (puts : PutsAreCounted) (passed_on : PassedOn) wher
         → IsProfile (record rows { options = options_after c.addmem rows.options }) c.class (altered_resource c rows old)
     unfolding r_alter_conflicts tests-alter
     altered_resource-lawful old found is =
-        let kept = profile-kept rows (record rows { options = options_after c.addmem rows.options }) (λ name. refl) extends-alter c.class old is in
+        let kept = profile-kept rows (record rows { options = options_after c.addmem rows.options }) (λ name h. h) extends-alter c.class old refl is in
         let there = found-profile one puts passed_on c.class c.profile rows old found in
         let text : c.profile.text ≡ old.name.text = sym (same old.name.text c.profile.text (find-passes (is_profile c.profile) old there.0.profiles there.2)) in
         record {
@@ -189,7 +195,7 @@ module _ (one : OneIsBefore) (puts : PutsAreCounted) (passed_on : PassedOn) wher
           audit = and_from (is_audit (unwrap_or c.audit old.audit)) (is_audit (unwrap_or c.globalaudit old.global_audit))
               (audit-given c.audit old.audit audit ((and_parts (is_audit old.audit) (is_audit old.global_audit) is.audit).0))
               (audit-given c.globalaudit old.global_audit global_audit ((and_parts (is_audit old.audit) (is_audit old.global_audit) is.audit).1));
-          members = members-after rows.options c.class c.addmem c.delmem old (altered_resource c rows old) refl refl kept.members
+          members = members-after rows.options c.class c.addmem c.delmem old (altered_resource c rows old) refl refl kept.members chosen
               (subst (λ (t : List ℕ). AllByRecursion (λ member. is_fitting c.class t member ≡ true) c.addmem) text fit)
               (few-members issuer (command.RAlter c) c.class c.profile rows (altered_resource c rows old) tests-alter.1.1.1.1.1.1.1.0
               (changed-found one puts passed_on rows c.class c.profile (altered_resource c rows) old (λ p. refl) found));
@@ -201,9 +207,10 @@ module _ (one : OneIsBefore) (puts : PutsAreCounted) (passed_on : PassedOn) wher
     r_alter-lawful =
         profile-changed-lawful one puts passed_on rows c.class c.profile (altered_resource c rows) (options_after c.addmem rows.options) lawful (λ p. refl) altered_resource-lawful
         (entries-changed one puts passed_on rows c.class c.profile (altered_resource c rows) lawful (λ p. refl) (λ p. omega arith))
-        (all-each (IsClass rows) (IsClass (record rows { options = options_after c.addmem rows.options })) (class-kept rows (record rows { options = options_after c.addmem rows.options }) (λ name. refl) extends-alter) rows.classes lawful.each_class)
+        (all-each (IsClass rows) (IsClass (record rows { options = options_after c.addmem rows.options })) (λ class is. class-kept rows (record rows { options = options_after c.addmem rows.options }) (λ name h. h) extends-alter class refl is) rows.classes lawful.each_class)
         extends-alter
         (categories-after c.addmem rows.options lawful.categories (few-categories issuer (command.RAlter c) rows tests-alter.1.1.1.1.1.1.1.1.0))
+        (λ own p. absurd (true≢false (sym own ∙ chosen)))
 
   -- ---- PERMIT
   module _ (issuer : Issuer) (c : Permit) (rows : Rows) (lawful : AreLawful rows) (met : first_met (permit_conflicts issuer c rows) ≡ None) where
@@ -227,7 +234,7 @@ module _ (one : OneIsBefore) (puts : PutsAreCounted) (passed_on : PassedOn) wher
       name = is.name;
       entries = entries-permitted c old is.entries (few-standard old found) (few-conditional old found);
       audit = is.audit;
-      members = record { distinct = is.members.distinct; fitting = is.members.fitting; few = is.members.few };
+      members = record { distinct = is.members.distinct; fitting = is.members.fitting; few = is.members.few; traits = is.members.traits };
       categories = is.categories;
     }
 
@@ -236,4 +243,4 @@ module _ (one : OneIsBefore) (puts : PutsAreCounted) (passed_on : PassedOn) wher
     few-all_entries = within AllEntries 1000000 _ tests-permit.1.1.1.1.1.0
 
     pub permit-lawful : AreLawful (step issuer (command.Permit c) rows)
-    permit-lawful = profile-changed-alone one puts passed_on rows c.class c.profile (permitted_profile c) lawful (λ p. refl) permitted-lawful few-all_entries
+    permit-lawful = profile-changed-alone one puts passed_on rows c.class c.profile (permitted_profile c) lawful (λ p. refl) permitted-lawful few-all_entries (λ own p. refl)

@@ -26,6 +26,8 @@ use Rattle.row_tables.specs.ChangedRow.{at_row}
 use Rattle.row_tables.proofs.RowLaws.{sum-drop_row}
 use Rattle.command_rules.specs.ProfileEffects.{profile_put, profile_dropped, profile_changed}
 use Rattle.lawful_commands.proofs.RowLists.{all-at, names-at, sum-at-le}
+use Rattle.racf_profiles.specs.DynamicClasses.{cdt, traits_of}
+use Rattle.lawful_commands.proofs.ClassTraits.{said_by, said_in, said-elsewhere, said-replaced}
 use Rattle.lawful_commands.proofs.Kept.{Extends, extends_itself, classes-changed}
 
 -- ---- a change of one class is a change of the row that is found
@@ -37,7 +39,7 @@ pub all-at_class : (P : ClassRow → Type 0) (name : List ℕ) (change : ClassRo
     → AllByRecursion P (at_class name change classes)
 all-at_class P name change classes f h = subst (AllByRecursion P) (sym (at_class-at_row name change classes)) (all-at P (is_class name) change classes f h)
 
-names-at_class : (name : List ℕ) (change : ClassRow → ClassRow) → ((row : ClassRow) → (change row).name ≡ row.name) → (classes : List ClassRow)
+pub names-at_class : (name : List ℕ) (change : ClassRow → ClassRow) → ((row : ClassRow) → (change row).name ≡ row.name) → (classes : List ClassRow)
     → map (λ (class : ClassRow). class.name) (at_class name change classes) ≡ map (λ (class : ClassRow). class.name) classes
 names-at_class name change keeps classes = ap (map (λ (class : ClassRow). class.name)) (at_class-at_row name change classes) ∙ names-at (λ (class : ClassRow). class.name) (is_class name) change keeps classes
 
@@ -68,7 +70,7 @@ pub record PutsAreCounted : Type 0 where
       → entry_count (at_class class (with_profile profile) classes) + option_map_or entries_in (profile_in class profile.name classes) 0 ≡ entry_count classes + entries_in profile
 
 module _ (one : OneIsBefore) (puts : PutsAreCounted) (passed_on : PassedOn) where
-  put-profiles : (kind : NameKind) (profile : Profile) (profiles : List Profile) → IsPattern profile.name → profile.name.kind ≡ kind → length (put_profile profile profiles) ≤ most_class_profiles → AreProfiles kind profiles
+  pub put-profiles : (kind : NameKind) (profile : Profile) (profiles : List Profile) → IsPattern profile.name → profile.name.kind ≡ kind → length (put_profile profile profiles) ≤ most_class_profiles → AreProfiles kind profiles
       → AreProfiles kind (put_profile profile profiles)
   put-profiles kind profile profiles lawful is few are = record {
     named = all-put_profile (λ (p : Profile). IsPattern p.name × (p.name.kind ≡ kind)) profile profiles (lawful, is) are.named;
@@ -76,7 +78,7 @@ module _ (one : OneIsBefore) (puts : PutsAreCounted) (passed_on : PassedOn) wher
     few = few;
   }
 
-  drop-profiles : (kind : NameKind) (goes : Profile → Bool) (profiles : List Profile) → AreProfiles kind profiles → AreProfiles kind (drop_row goes profiles)
+  pub drop-profiles : (kind : NameKind) (goes : Profile → Bool) (profiles : List Profile) → AreProfiles kind profiles → AreProfiles kind (drop_row goes profiles)
   drop-profiles kind goes profiles are = record {
     named = all-drop_row (λ (p : Profile). IsPattern p.name × (p.name.kind ≡ kind)) goes profiles are.named;
     ordered = order-drop_row passed_on goes profiles are.ordered;
@@ -89,10 +91,11 @@ module _ (one : OneIsBefore) (puts : PutsAreCounted) (passed_on : PassedOn) wher
       → ((row : ClassRow) → class_of class rows ≡ Some row → length (put_profile profile row.profiles) ≤ most_class_profiles)
       → profile_count (at_class class (with_profile profile) rows.classes) ≤ most_profiles → entry_count (at_class class (with_profile profile) rows.classes) ≤ most_entries_in_all
       → AllByRecursion (IsClass (record rows { options = options })) rows.classes → Extends rows.options options → AreCategories options
+      → (let new : Rows = record rows { classes = at_class class (with_profile profile) rows.classes; options = options } in said_in new ≡ said_in rows)
       → AreLawful (record rows { classes = at_class class (with_profile profile) rows.classes; options = options })
-  profile-put-lawful rows class profile options lawful pattern kind is few_in_class few few_entries each extends categories =
+  profile-put-lawful rows class profile options lawful pattern kind is few_in_class few few_entries each extends categories said =
       classes-changed rows (at_class class (with_profile profile) rows.classes) options lawful
-      (names-at_class class (with_profile profile) (λ row. refl) rows.classes)
+      (names-at_class class (with_profile profile) (λ row. refl) rows.classes) said
       (all-at_class (λ (row : ClassRow). AreProfiles (kind_in row.name) row.profiles) class (with_profile profile) rows.classes
       (λ row found are. put-profiles (kind_in row.name) profile row.profiles pattern (kind ∙ ap kind_in (sym (same_class class row rows.classes found))) (few_in_class row found) are) lawful.classes.lawful)
       (all-at_class (IsClass (record rows { options = options })) class (with_profile profile) rows.classes
@@ -105,10 +108,11 @@ module _ (one : OneIsBefore) (puts : PutsAreCounted) (passed_on : PassedOn) wher
       few few_entries extends categories
 
   -- ---- a profile is dropped
-  pub profile-dropped-lawful : (rows : Rows) (class : List ℕ) (name : Spelled) → AreLawful rows → AreLawful (profile_dropped class name rows)
-  profile-dropped-lawful rows class name lawful =
+  pub profile-dropped-lawful : (rows : Rows) (class : List ℕ) (name : Spelled) → bytes_eq class cdt ≡ false → AreLawful rows → AreLawful (profile_dropped class name rows)
+  profile-dropped-lawful rows class name other lawful =
       classes-changed rows (at_class class (without_profile name) rows.classes) rows.options lawful
       (names-at_class class (without_profile name) (λ row. refl) rows.classes)
+      (said-elsewhere class (without_profile name) (λ row. refl) rows (profile_dropped class name rows) refl other)
       (all-at_class (λ (row : ClassRow). AreProfiles (kind_in row.name) row.profiles) class (without_profile name) rows.classes (λ row found are. drop-profiles (kind_in row.name) (is_profile name) row.profiles are) lawful.classes.lawful)
       (all-at_class (IsClass rows) class (without_profile name) rows.classes
       (λ row found own. record { active = own.active; listed = own.listed; profiles = all-drop_row (IsProfile rows row.name) (is_profile name) row.profiles own.profiles }) lawful.each_class)
@@ -117,6 +121,10 @@ module _ (one : OneIsBefore) (puts : PutsAreCounted) (passed_on : PassedOn) wher
       (extends_itself rows.options) lawful.categories
 
   -- ---- a profile is changed, and keeps its name
+  said-as : (new old : Profile) (was : Profile) → new.name.text ≡ was.name.text → traits_of new.members ≡ traits_of was.members → was ≡ old → said_by new ≡ said_by old
+  said-as new old was text traits same =
+      ap (λ t. (t, traits_of new.members)) text ∙ ap (λ traits. (was.name.text, traits)) traits ∙ ap said_by same
+
   -- the profile of that name stands in the class of that name
   pub found-profile : (class : List ℕ) (name : Spelled) (rows : Rows) (old : Profile) → profile_of class name rows ≡ Some old → (row : ClassRow) × (class_of class rows ≡ Some row) × (find (is_profile name) row.profiles ≡ Some old)
   found-profile class name rows old found = by (class_of class rows) refl found
@@ -194,12 +202,13 @@ module _ (one : OneIsBefore) (puts : PutsAreCounted) (passed_on : PassedOn) wher
       → ((old : Profile) → profile_of class name rows ≡ Some old → IsProfile rows class old → IsProfile (record rows { options = options }) class (change old))
       → entry_count (profile_changed class name change rows).classes ≤ most_entries_in_all
       → AllByRecursion (IsClass (record rows { options = options })) rows.classes → Extends rows.options options → AreCategories options
+      → (bytes_eq class cdt ≡ true → (p : Profile) → traits_of (change p).members ≡ traits_of p.members)
       → AreLawful (record (profile_changed class name change rows) { options = options })
-  profile-changed-lawful rows class name change options lawful keeps is few_entries each extends categories = by (profile_of class name rows) refl few_entries
+  profile-changed-lawful rows class name change options lawful keeps is few_entries each extends categories traits = by (profile_of class name rows) refl few_entries
     where
       by : (o : Option Profile) → profile_of class name rows ≡ o → entry_count (option_map_or (λ old. profile_put class (change old) rows) o rows).classes ≤ most_entries_in_all
           → AreLawful (record (option_map_or (λ old. profile_put class (change old) rows) o rows) { options = options })
-      by None none few = classes-changed rows rows.classes options lawful refl lawful.classes.lawful each lawful.few_profiles few extends categories
+      by None none few = classes-changed rows rows.classes options lawful refl refl lawful.classes.lawful each lawful.few_profiles few extends categories
       by (Some old) found few =
           let there = found-profile class name rows old found in
           let one_row : (row : ClassRow) → class_of class rows ≡ Some row → find (is_profile name) row.profiles ≡ Some old = λ row here.
@@ -213,6 +222,10 @@ module _ (one : OneIsBefore) (puts : PutsAreCounted) (passed_on : PassedOn) wher
           (λ row here. omega (arith, (are-profiles rows lawful class name row here).few, length-replaced rows lawful class name row here old (change old) (one_row row here) (keeps old)))
           (omega (arith, lawful.few_profiles, profiles-replaced rows lawful class name there.0 there.1 old (change old) there.2 (keeps old)))
           few each extends categories
+          (said-replaced rows (record rows { classes = at_class class (with_profile (change old)) rows.classes; options = options }) class there.0 (change old) refl there.1
+          (length-replaced rows lawful class name there.0 there.1 old (change old) there.2 (keeps old))
+          (λ own other found. said-as (change old) other old (ap (λ (n : Spelled). n.text) (keeps old)) (traits own old)
+          (let a = found in let b = found-again rows lawful class name there.0 there.1 old (change old) there.2 (keeps old) in cc)))
 
   -- the profile that was changed is found by its name
   pub changed-found : (rows : Rows) (class : List ℕ) (name : Spelled) (change : Profile → Profile) (old : Profile) → ((p : Profile) → (change p).name ≡ p.name) → profile_of class name rows ≡ Some old
@@ -235,7 +248,8 @@ module _ (one : OneIsBefore) (puts : PutsAreCounted) (passed_on : PassedOn) wher
   pub profile-changed-alone : (rows : Rows) (class : List ℕ) (name : Spelled) (change : Profile → Profile) → AreLawful rows → ((p : Profile) → (change p).name ≡ p.name)
       → ((old : Profile) → profile_of class name rows ≡ Some old → IsProfile rows class old → IsProfile rows class (change old))
       → entry_count (profile_changed class name change rows).classes ≤ most_entries_in_all
+      → (bytes_eq class cdt ≡ true → (p : Profile) → traits_of (change p).members ≡ traits_of p.members)
       → AreLawful (profile_changed class name change rows)
-  profile-changed-alone rows class name change lawful keeps is few_entries =
+  profile-changed-alone rows class name change lawful keeps is few_entries traits =
       subst (λ (options : Options). AreLawful (record (profile_changed class name change rows) { options = options })) (options-changed rows class name change)
-      (profile-changed-lawful rows class name change rows.options lawful keeps is few_entries lawful.each_class (extends_itself rows.options) lawful.categories)
+      (profile-changed-lawful rows class name change rows.options lawful keeps is few_entries lawful.each_class (extends_itself rows.options) lawful.categories traits)

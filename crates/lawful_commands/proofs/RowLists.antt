@@ -1,7 +1,8 @@
 -- What holds of each row of a list, and that no two rows have one name, after a row was added, changed, put or dropped.
-use Rattle.std.proofs.Common.{◌≡◌, ℕ, ◌≤◌, Bool, true, false, cond, ◌||◌, ◌&&◌, List, [], ◌∷◌, ◌++◌, length, map, None, Some, refl, sym, ap, ◌∙◌, true≢false, arith}
+use Rattle.std.proofs.Common.{◌≡◌, ℕ, ◌≤◌, Bool, true, false, cond, ◌||◌, ◌&&◌, not, List, [], ◌∷◌, ◌++◌, length, map, None, Some, bytes_eq, refl, sym, ap, ◌∙◌, true≢false, arith}
 use Rattle.std.specs.Prelude.{find, filter, sum_by}
 use Rattle.std.specs.List.{AllByRecursion, IsDistinct, list_any, list_all}
+use Rattle.std.proofs.lemmas.Bool.{and_parts, not-true}
 use Rattle.std.proofs.lemmas.List.Sums.{sum_by-cons}
 use Rattle.racf_profiles.specs.Edits.{drop_row}
 use Rattle.racf_profiles.proofs.EditLaws.{all-drop_row}
@@ -87,6 +88,18 @@ distinct-none like = tt
 pub distinct-one : {K : Type 0} (like : K → K → Bool) (key : K) → IsDistinct like (key ∷ [])
 unfolding IsDistinct
 distinct-one like key = (tt, tt)
+
+-- names of which a test finds no two the same
+abbrev are_apart : List (List ℕ) → Bool
+are_apart [] = true
+are_apart (name ∷ names) = not (list_any (bytes_eq name) names) && are_apart names
+
+pub names-apart : (names : List (List ℕ)) → are_apart names ≡ true → IsDistinct bytes_eq names
+unfolding IsDistinct
+names-apart [] h = tt
+names-apart (name ∷ names) h =
+    let parts = and_parts (not (list_any (bytes_eq name) names)) (are_apart names) h in
+    (none-any (bytes_eq name) names (not-true (list_any (bytes_eq name) names) parts.0), names-apart names parts.1)
 
 pub map-itself : {X : Type 0} (xs : List X) → map (λ (x : X). x) xs ≡ xs
 map-itself [] = refl

@@ -16,8 +16,8 @@ same_categories options grplist protectall mls = record { longer = omega arith; 
 pub switched-lawful : (rows : Rows) (grplist protectall mls : Bool) → AreLawful rows → AreLawful (record rows { options = record rows.options { grplist = grplist; protectall = protectall; mls = mls } })
 switched-lawful rows grplist protectall mls lawful =
     let options : Options = switched rows.options grplist protectall mls in
-    classes-changed rows rows.classes (switched rows.options grplist protectall mls) lawful refl lawful.classes.lawful
+    classes-changed rows rows.classes (switched rows.options grplist protectall mls) lawful refl refl lawful.classes.lawful
     (all-each (IsClass rows) (IsClass (record rows { options = switched rows.options grplist protectall mls }))
-    (class-kept rows (record rows { options = switched rows.options grplist protectall mls }) (λ name. refl) (same_categories rows.options grplist protectall mls)) rows.classes lawful.each_class)
+    (λ class is. class-kept rows (record rows { options = switched rows.options grplist protectall mls }) (λ name h. h) (same_categories rows.options grplist protectall mls) class refl is) rows.classes lawful.each_class)
     lawful.few_profiles lawful.few_entries (same_categories rows.options grplist protectall mls)
     (record { distinct = lawful.categories.distinct; few = lawful.categories.few })

@@ -118,6 +118,6 @@ fn counts_without_room(rt: HostRuntime) {
 fn faults(rt: HostRuntime) {
     assert_eq!(rt; place_told(of_image(rt.alloc(), &[])), Some(0));
     assert_eq!(rt; place_told(of_image(rt.alloc(), &[8])), Some(0));
-    assert_eq!(rt; place_of_cut(rt.alloc()), Some(309));
+    assert_eq!(rt; place_of_cut(rt.alloc()), Some(323));
     assert_eq!(rt; place_of_default(rt.alloc()), Some(43));
 }

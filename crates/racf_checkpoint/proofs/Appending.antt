@@ -19,21 +19,21 @@ use Rattle.racf_checkpoint.specs.Stored.{IsStored, IsPassedOver, Beside}
 use Rattle.racf_checkpoint.proofs.Saying.{RecordsAreRead, gate_of, rest_size, reads_says, kept_says, beside_passed, stored_says}
 
 -- a checkpoint with one record more
-one_more : (kept : CheckpointRead) (next : List ℕ) → IsCheckpoint kept → gate_of kept (kept.records ++ next ∷ []) < 2 ^ 28 → IsCheckpoint (and_record kept next)
-one_more kept next c fits = record { some = c.some; epoch = c.epoch; number = c.number; stored = c.stored; size = c.size; fits = fits; is = refl }
+abbrev one_more : (kept : CheckpointRead) (next : List ℕ) → IsCheckpoint kept → gate_of kept (kept.records ++ next ∷ []) < 2 ^ 28 → IsCheckpoint (and_record kept next)
+one_more kept next c fits = record { some = c.some; epoch = c.epoch; number = c.number; stored = c.stored; image = c.image; image_is = c.image_is; read_as = c.read_as; size = c.size; start = c.start; fits = fits; is = refl }
 
 -- where the gate behind it stands
 spelled_more : (records : List (List ℕ)) (next : List ℕ) → length (spelled (records ++ next ∷ [])) ≡ length (spelled records) + (1 + length next)
 spelled_more [] next = omega (arith, length-append next [])
 spelled_more (first ∷ records) next = omega (arith, spelled_more records next, length-append first (spelled records), length-append first (spelled (records ++ next ∷ [])))
 
-gate_more : (kept : CheckpointRead) (next : List ℕ) (start gate : ℕ) (m : Moment) → IsAtRest (with_image kept.epoch kept.number kept.rows) start gate kept.records m → gate + 2 + length next ≤ 2 ^ 28
+gate_more : (kept : CheckpointRead) (c : IsCheckpoint kept) (next : List ℕ) (start gate : ℕ) (m : Moment) → IsAtRest (with_image kept.epoch kept.number c.image) start gate kept.records m → gate + 2 + length next ≤ 2 ^ 28
     → gate_of kept (kept.records ++ next ∷ []) < 2 ^ 28
-gate_more kept next start gate m rest fits = omega (arith, fits, (rest_size kept kept.records start gate m rest).0, spelled_more kept.records next)
+gate_more kept c next start gate m rest fits = omega (arith, fits, (rest_size kept c kept.records start gate m rest).0, spelled_more kept.records next)
 
 -- a journal that rests
 pub rests : (epoch start gate : ℕ) (told : Option History) → Now told (λ m. (kept : CheckpointRead) × IsStored epoch start gate kept m) → Now told (IsResting start gate)
-rests epoch start gate told ready h e = let r = ready h e in (with_image r.0.epoch r.0.number r.0.rows, r.0.records, r.1.rest)
+rests epoch start gate told ready h e = let r = ready h e in (with_image r.0.epoch r.0.number r.1.lawful.image, r.0.records, r.1.rest)
 
 module _ (epoch start gate : ℕ) (next : List ℕ) (old new : Option History) (leaves : LeavesEither start gate next old new) where
   -- while it is appended
@@ -41,7 +41,7 @@ module _ (epoch start gate : ℕ) (next : List ℕ) (old new : Option History) (
     abbrev P : List ℕ → Type 0
     P = Beside side idle (SaysEither kept (and_record kept next))
 
-    either_says : IsCheckpoint kept → kept.epoch ≡ epoch → gate_of kept (kept.records ++ next ∷ []) < 2 ^ 28 → (file : List ℕ) → ReadsAsEither (with_image kept.epoch kept.number kept.rows) kept.records next file → length file ≤ 2 ^ 28 → P file
+    either_says : (c : IsCheckpoint kept) → kept.epoch ≡ epoch → gate_of kept (kept.records ++ next ∷ []) < 2 ^ 28 → (file : List ℕ) → ReadsAsEither (with_image kept.epoch kept.number c.image) kept.records next file → length file ≤ 2 ^ 28 → P file
     either_says c at fits file (inl r) short = beside_passed side epoch idle (SaysEither kept (and_record kept next)) file passed (λ m p. inl (kept_says law side epoch kept file m c at p (record { reads = r; short = short })))
     either_says c at fits file (inr r) short =
         beside_passed side epoch idle (SaysEither kept (and_record kept next)) file passed (λ m p. inr (reads_says law side epoch kept (kept.records ++ next ∷ []) file m c at p fits (record { reads = r; short = short })))
@@ -51,8 +51,8 @@ module _ (epoch start gate : ℕ) (next : List ℕ) (old new : Option History) (
     moments_within fits =
         append_stays P start gate next old new leaves (λ h e.
         let s = stored h e in
-        let more : gate_of kept (kept.records ++ next ∷ []) < 2 ^ 28 = gate_more kept next start gate h.now s.rest fits in
-        (with_image kept.epoch kept.number kept.rows, kept.records, s.rest, λ file r. either_says s.lawful s.is_of more file r.0 (omega (arith, r.1, fits))))
+        let more : gate_of kept (kept.records ++ next ∷ []) < 2 ^ 28 = gate_more kept s.lawful next start gate h.now s.rest fits in
+        (with_image kept.epoch kept.number s.lawful.image, kept.records, s.rest, λ file r. either_says s.lawful s.is_of more file r.0 (omega (arith, r.1, fits))))
 
     -- else nothing is written
     moments_none : StaysIn P old old
@@ -73,13 +73,13 @@ module _ (epoch start gate : ℕ) (next : List ℕ) (old new : Option History) (
     append_stored kept stored =
         append_keeps (IsStored epoch later end (and_record kept next)) start gate next old new leaves acknowledged (λ h e.
         let s = stored h e in
-        (with_image kept.epoch kept.number kept.rows, kept.records, s.rest, λ m rest. moved (and_record kept next) m (record { is_of = s.is_of; lawful = one_more kept next s.lawful (gate_more kept next start gate h.now s.rest fits); rest = rest })))
+        (with_image kept.epoch kept.number s.lawful.image, kept.records, s.rest, λ m rest. moved (and_record kept next) m (record { is_of = s.is_of; lawful = one_more kept next s.lawful (gate_more kept s.lawful next start gate h.now s.rest fits); rest = rest })))
 
     pub append_ready : Now old (λ m. (kept : CheckpointRead) × IsStored epoch start gate kept m) → Now new (λ m. (kept : CheckpointRead) × IsStored epoch later end kept m)
     append_ready ready =
         append_keeps (λ m. (kept : CheckpointRead) × IsStored epoch later end kept m) start gate next old new leaves acknowledged (λ h e.
         let r = ready h e in
-        (with_image r.0.epoch r.0.number r.0.rows, r.0.records, r.1.rest, λ m rest. (and_record r.0 next, moved (and_record r.0 next) m (record { is_of = r.1.is_of; lawful = one_more r.0 next r.1.lawful (gate_more r.0 next start gate h.now r.1.rest fits); rest = rest }))))
+        (with_image r.0.epoch r.0.number r.1.lawful.image, r.0.records, r.1.rest, λ m rest. (and_record r.0 next, moved (and_record r.0 next) m (record { is_of = r.1.is_of; lawful = one_more r.0 next r.1.lawful (gate_more r.0 r.1.lawful next start gate h.now r.1.rest fits); rest = rest }))))
 
 -- ---- what an append that was full says
 ok_full : (x : Unit {0}) → ◌≡◌ {A = Result (Unit {0}) JournalFault} (Ok x) (Err journal.Full) → ⊥

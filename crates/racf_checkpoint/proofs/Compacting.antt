@@ -31,8 +31,8 @@ pub record Live (epoch : ℕ) (kept : CheckpointRead) (m : Moment) : Type 0 wher
 pub live_is : RecordsAreRead → (epoch start gate : ℕ) (kept : CheckpointRead) (m : Moment) → IsStored epoch start gate kept m → Live epoch kept m
 live_is law epoch start gate kept m s =
     let still : m ≡ durable m.bytes = s.rest.is ∙ ap (λ (n : Moment). durable n.bytes) (sym s.rest.is) in
-    let image_is = subst (Leaves (ReadsShort kept kept.records)) still (rest_short kept start gate m s.lawful s.rest) in
-    let reads : ReadsShort kept kept.records m.bytes = image_is.each m.bytes (record { no_shorter = omega arith; no_longer = omega arith; stays = λ place within kept_place. refl }) in
+    let image_is = subst (Leaves (ReadsShort kept s.lawful.image kept.records)) still (rest_short kept start gate m s.lawful s.rest) in
+    let reads : ReadsShort kept s.lawful.image kept.records m.bytes = image_is.each m.bytes (record { no_shorter = omega arith; no_longer = omega arith; stays = λ place within kept_place. refl }) in
     record {
       durable = still;
       counts = subst (λ n. Counts n m.bytes) s.is_of (reads_counts law kept kept.records m.bytes s.lawful reads.reads);

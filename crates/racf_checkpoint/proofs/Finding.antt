@@ -121,8 +121,8 @@ parts_count Second one two first second p q w = sym (which_fronts 17 (2 ^ 28 + 1
 -- what was read of two disks
 same_side : (at side : Side) (one two : List ℕ) (kept : CheckpointRead) → IsHeld kept (file_on side one two) → length (pick at two one) ≤ 17 → at ≡ side
 same_side First First one two kept h short = refl
-same_side First Second one two kept h short = let p : HeldParts kept two = held_parts kept two h in absurd (omega (arith, p.behind, p.within, short))
-same_side Second First one two kept h short = let p : HeldParts kept one = held_parts kept one h in absurd (omega (arith, p.behind, p.within, short))
+same_side First Second one two kept h short = let p : HeldParts kept h.lawful.image two = held_parts kept two h in absurd (omega (arith, p.behind, p.within, short))
+same_side Second First one two kept h short = let p : HeldParts kept h.lawful.image one = held_parts kept one h in absurd (omega (arith, p.behind, p.within, short))
 same_side Second Second one two kept h short = refl
 
 pub parts_seen : (first second : Option History) (at side : Side) (kept : CheckpointRead) (one two end : List ℕ) → IsSaid one two side kept end → length (pick at two one) ≤ 17
@@ -144,8 +144,8 @@ module _ (first second : Option History) (side : Side) (kept : CheckpointRead) (
   idle_is : Now (pick side second first) (λ m. (m ≡ durable m.bytes) × (file_on (other side) s.one s.two ≡ take 17 m.bytes))
   idle_is = picked_idle side first second s.one s.two s.first_holds s.second_holds
 
-  held_now : (m : Moment) → m ≡ durable (file_on side s.one s.two) → HoldsRead kept m
-  held_now m is = subst (HoldsRead kept) (sym is) (record { durable = refl; held = s.said.held })
+  held_now : (m : Moment) → m ≡ durable (file_on side s.one s.two) → HoldsRead kept s.said.held.lawful.image m
+  held_now m is = subst (HoldsRead kept s.said.held.lawful.image) (sym is) (record { durable = refl; held = s.said.held; image_is = refl })
 
   pub seen_read : IsRead (pick side first second) (pick side second first) side kept
   seen_read = record {
@@ -169,26 +169,26 @@ module _ (first second : Option History) (side : Side) (kept : CheckpointRead) (
   pub seen_found : IsFound kept.start kept.gate kept.records end (pick side first second)
   seen_found =
       let file : List ℕ = file_on side s.one s.two in
-      let p : HeldParts kept file = held_parts kept file s.said.held in
+      let p : HeldParts kept s.said.held.lawful.image file = held_parts kept file s.said.held in
       file_is_found kept.start file (record { records = kept.records; gate = kept.gate }) (omega (arith, p.behind)) p.within p.reads end (pick side first second) s.said.room s.said.end_is live_is
 
 -- ---- an opening
 
 module _ (law : RecordsAreRead) (kept : CheckpointRead) where
   -- a file with this front and this reading
-  reads_again : (one file : List ℕ) → IsHeld kept one → take kept.start file ≡ take kept.start one → reading kept.start file ≡ reading kept.start one → ReadsAs (with_image kept.epoch kept.number kept.rows) kept.records file
+  reads_again : (one file : List ℕ) → (h : IsHeld kept one) → take kept.start file ≡ take kept.start one → reading kept.start file ≡ reading kept.start one → ReadsAs (with_image kept.epoch kept.number h.lawful.image) kept.records file
   reads_again one file h front same =
-      let p : HeldParts kept one = held_parts kept one h in
+      let p : HeldParts kept h.lawful.image one = held_parts kept one h in
       record {
         front_stays = ap (λ n. take n file) p.long ∙ front ∙ p.front;
         reads = ap (λ n. reading n file) p.long ∙ same ∙ ap (λ n. reading n one) (sym p.long) ∙ h.reads.reads;
       }
 
-  says_it : (file : List ℕ) → IsCheckpoint kept → length file ≤ 2 ^ 28 → ReadsAs (with_image kept.epoch kept.number kept.rows) kept.records file → file_contents file ≡ Ok kept
+  says_it : (file : List ℕ) → (c : IsCheckpoint kept) → length file ≤ 2 ^ 28 → ReadsAs (with_image kept.epoch kept.number c.image) kept.records file → file_contents file ≡ Ok kept
   says_it file c short r = contents_are law kept kept.records file c (gate_fits kept c) (record { reads = r; short = short }) ∙ ap (λ (read : CheckpointRead). Ok read) (sym c.is)
 
-  possible : (before : Moment) → HoldsRead kept before → (file : List ℕ) → JournalWasPossible kept.start before file → WasPossible before file
-  possible before holds file w =
+  possible : (image : List ℕ) (before : Moment) → HoldsRead kept image before → (file : List ℕ) → JournalWasPossible kept.start before file → WasPossible before file
+  possible image before holds file w =
       let image_is : w.image ≡ before.bytes = only before.bytes w.image (subst (λ m. IsImage m w.image) holds.durable w.was_left) in
       let h : IsHeld kept w.image = subst (IsHeld kept) (sym image_is) holds.held in
       let r = reads_again w.image file h w.front w.reads in
@@ -200,18 +200,19 @@ module _ (law : RecordsAreRead) (kept : CheckpointRead) where
         says = held_as kept file w.image (reads_counts law kept kept.records file h.lawful r) h.counts (says_it file h.lawful short r) (says_it w.image h.lawful h.short h.reads);
       }
 
-  pub open_stays : (a b : Option History) → Now a (HoldsRead kept) → JournalStaysPossible kept.start a b → StaysPossible a b
-  open_stays a b holds stays before was =
-      StaysIn-weaker (WasPossible before) (stays before was) (λ h e file w. possible before (subst (HoldsRead kept) (was h e) (holds h e)) file w)
+  pub open_stays : (image : List ℕ) (a b : Option History) → Now a (HoldsRead kept image) → JournalStaysPossible kept.start a b → StaysPossible a b
+  open_stays image a b holds stays before was =
+      StaysIn-weaker (WasPossible before) (stays before was) (λ h e file w. possible image before (subst (HoldsRead kept image) (was h e) (holds h e)) file w)
 
-  front_held : (a : Option History) → Now a (HoldsRead kept) → Now a (λ m. take kept.start m.bytes ≡ with_image kept.epoch kept.number kept.rows)
-  front_held a holds h e = (held_parts kept h.now.bytes (holds h e).held).front
+  front_held : (image : List ℕ) (a : Option History) → Now a (HoldsRead kept image) → Now a (λ m. take kept.start m.bytes ≡ with_image kept.epoch kept.number image)
+  front_held image a holds h e = (held_parts kept h.now.bytes (holds h e).held).front ∙ ap (with_image kept.epoch kept.number) (holds h e).image_is
 
   -- what the disk stores behind it
   pub opened_stored : (live idle b : Option History) (side : Side) (start gate : ℕ) → IsRead live idle side kept → start ≡ kept.start → gate ≡ kept.gate
       → ((front : List ℕ) → Now live (λ m. take kept.start m.bytes ≡ front) → Keeps front kept.start kept.gate kept.records b) → Now b (IsStored kept.epoch start gate kept)
   opened_stored live idle b side start gate read at to rest h e =
-      let keeps : IsAtRest (with_image kept.epoch kept.number kept.rows) kept.start kept.gate kept.records h.now = rest (with_image kept.epoch kept.number kept.rows) (front_held live read.holds) h e in
+      let front : List ℕ = with_image kept.epoch kept.number read.lawful.image in
+      let keeps : IsAtRest front kept.start kept.gate kept.records h.now = rest front (front_held read.lawful.image live read.holds) h e in
       subst (λ n. IsStored kept.epoch n gate kept h.now) (sym at)
       (subst (λ n. IsStored kept.epoch kept.start n kept h.now) (sym to)
       (record { is_of = refl; lawful = read.lawful; rest = keeps }))

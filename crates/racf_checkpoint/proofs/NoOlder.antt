@@ -1,8 +1,8 @@
 -- That two files say nothing older while a new database is written over an old one.
-use Rattle.std.proofs.Common.{ℕ, ◌+◌, ◌<◌, ◌≤◌, ◌^◌, ◌≡◌, ◌∙◌, ◌⊎◌, inl, inr, List, [], ◌∷◌, length, Option, None, Some, Result, Ok, Err, refl, sym, ap, subst, arith}
+use Rattle.std.proofs.Common.{ℕ, ◌≡◌, ◌∙◌, ◌⊎◌, inl, inr, List, [], Option, None, Some, Result, Ok, Err, refl, sym, ap, subst, arith}
 use Rattle.std.specs.Option.{option_map}
 use Rattle.std.proofs.lemmas.Option.{none-some, same_Some}
-use Rattle.racf_outside.specs.Crashes.{Leaves, StaysIn}
+use Rattle.racf_outside.specs.Crashes.{StaysIn}
 use Rattle.racf_outside.specs.Disk.{History, goes, Now}
 use Rattle.racf_outside.specs.Moments.{Moment, IsImage, durable, synced}
 use Rattle.racf_outside.proofs.Images.{only}
@@ -12,14 +12,14 @@ use Rattle.checkpoint_disks.specs.declared.counting.Side.{Side}
 use Rattle.checkpoint_disks.specs.declared.counting.Side.TheVariants.{First, Second}
 use Rattle.checkpoint_disks.specs.declared.fault.CheckpointFault.{CheckpointFault}
 use Rattle.checkpoint_disks.specs.declared.fault.CheckpointFault.TheVariants.{NotFormatted}
-use Rattle.checkpoint_disks.specs.Files.{is_formatted, head_is_open, CheckpointRead}
+use Rattle.checkpoint_disks.specs.Files.{CheckpointRead}
 use Rattle.checkpoint_disks.specs.Files.{contents as file_contents}
 use Rattle.checkpoint_disks.specs.Counting.{said}
 use Rattle.checkpoint_disks.specs.Compacting.{with_head, new_file, new_checkpoint, IsClosed, IsOneOf, first_of, second_of, said_beside}
 use Rattle.checkpoint_disks.specs.Baring.{IsBaring, first_to_go}
-use Rattle.racf_checkpoint.specs.Contents.{as_stored, Says}
+use Rattle.racf_checkpoint.specs.Contents.{as_stored}
 use Rattle.racf_checkpoint.specs.Stored.{SaysAs, StaysPossible}
-use Rattle.racf_checkpoint.specs.Formatting.{WasOrSaysNothing, StaysBaring, GoesBefore, InOrder, SaysNoOlder, LeavesNoOlder}
+use Rattle.racf_checkpoint.specs.Formatting.{WasOrSaysNothing, StaysBaring, GoesBefore, InOrder, LeavesNoOlder}
 use Rattle.racf_checkpoint.proofs.Finding.{said_together}
 use Rattle.racf_checkpoint.proofs.Formats.{bared_behind}
 use Rattle.racf_checkpoint.proofs.Syncing.{left_last, nothing_stays}

@@ -7,7 +7,7 @@ use Rattle.racf_outside.specs.Moments.{Moment, IsImage}
 use Rattle.racf_outside.proofs.Images.{only, durable-leaves}
 use Rattle.racf_outside.proofs.Runs.{Leaves-weaker}
 use Rattle.racf_profiles.specs.declared.rows.Rows.{Rows}
-use Rattle.database_image.specs.Image.{image_of, IsStored as AreStored}
+use Rattle.database_image.specs.Image.{rows_of}
 use Rattle.racf_journal.specs.Kept.{IsAtRest, ReadsAs}
 use Rattle.racf_journal.specs.Reading.{spelled}
 use Rattle.racf_journal.proofs.Rests.{rest_leaves}
@@ -25,9 +25,9 @@ use Rattle.racf_checkpoint.specs.Stored.{IsStored, IsPassedOver, Beside, SaysAs}
 
 -- the law of the crate below: a journal's records behind an image are said, and their file counts
 pub record RecordsAreRead : Type 0 where
-  pub says : (epoch number : ℕ) (rows : Rows) (records : List (List ℕ)) (file : List ℕ) → AreStored rows → 0 < epoch → epoch < 2 ^ 64 → number ≤ 2 ^ 62
-      → (33 + length (image_of rows)) + length (spelled records) < 2 ^ 28 → length file ≤ 2 ^ 28 → ReadsAs (with_image epoch number rows) records file → file_contents file ≡ Ok (with_records epoch number rows records)
-  pub counts : (epoch number : ℕ) (rows : Rows) (records : List (List ℕ)) (file : List ℕ) → epoch < 2 ^ 64 → ReadsAs (with_image epoch number rows) records file → Counts epoch file
+  pub says : (epoch number : ℕ) (image : List ℕ) (rows : Rows) (records : List (List ℕ)) (file : List ℕ) → rows_of image ≡ Ok rows → 0 < epoch → epoch < 2 ^ 64 → number ≤ 2 ^ 62
+      → (33 + length image) + length (spelled records) < 2 ^ 28 → length file ≤ 2 ^ 28 → ReadsAs (with_image epoch number image) records file → file_contents file ≡ Ok (with_records epoch number rows (33 + length image) records)
+  pub counts : (epoch number : ℕ) (image : List ℕ) (records : List (List ℕ)) (file : List ℕ) → epoch < 2 ^ 64 → ReadsAs (with_image epoch number image) records file → Counts epoch file
 
 -- a file that counts says what the two say
 pub said_counts : (side : Side) (epoch : ℕ) (live : List ℕ) (idle : Moment) → IsPassedOver side epoch idle → Counts epoch live → said (first_of side live idle.bytes) (second_of side live idle.bytes) ≡ file_contents live
@@ -42,56 +42,59 @@ said_counts Second epoch live idle p c =
 
 -- where the gate behind these records stands
 abbrev pub gate_of : CheckpointRead → (records : List (List ℕ)) → ℕ
-gate_of kept records = (33 + length (image_of kept.rows)) + length (spelled records)
+gate_of kept records = kept.start + length (spelled records)
 
 -- the gate of a checkpoint is one of the bytes that a file may have
 pub gate_fits : (kept : CheckpointRead) → IsCheckpoint kept → gate_of kept kept.records < 2 ^ 28
 gate_fits kept c = subst (λ n. n < 2 ^ 28) (ap (λ (read : CheckpointRead). read.gate) c.is) c.fits
 
 -- a file of records behind an image ends with that gate
-pub rest_size : (kept : CheckpointRead) (records : List (List ℕ)) (start gate : ℕ) (m : Moment) → IsAtRest (with_image kept.epoch kept.number kept.rows) start gate records m
+pub rest_size : (kept : CheckpointRead) (c : IsCheckpoint kept) (records : List (List ℕ)) (start gate : ℕ) (m : Moment) → IsAtRest (with_image kept.epoch kept.number c.image) start gate records m
     → (gate ≡ gate_of kept records) × (length m.bytes ≡ gate + 1)
-rest_size kept records start gate m rest =
-    let front : List ℕ = with_image kept.epoch kept.number kept.rows in
-    let long : length front ≡ 33 + length (image_of kept.rows) = image_long kept.epoch kept.number kept.rows in (
-      omega (arith, rest.to, rest.from, long),
+rest_size kept c records start gate m rest =
+    let front : List ℕ = with_image kept.epoch kept.number c.image in
+    let long : length front ≡ 33 + length c.image = image_long kept.epoch kept.number c.image in (
+      omega (arith, rest.to, rest.from, long, c.start),
       omega (arith, ap (λ (n : Moment). length n.bytes) rest.is, length-append (front ++ spelled records) (0 ∷ []), length-append front (spelled records), rest.to, rest.from),
     )
 
 -- a file that is read as these records, and isn't too long
-pub record ReadsShort (kept : CheckpointRead) (records : List (List ℕ)) (file : List ℕ) : Type 0 where
-  pub reads : ReadsAs (with_image kept.epoch kept.number kept.rows) records file
+pub record ReadsShort (kept : CheckpointRead) (image : List ℕ) (records : List (List ℕ)) (file : List ℕ) : Type 0 where
+  pub reads : ReadsAs (with_image kept.epoch kept.number image) records file
   pub short : length file ≤ 2 ^ 28
 
-pub rest_short : (kept : CheckpointRead) (start gate : ℕ) (m : Moment) → IsCheckpoint kept → IsAtRest (with_image kept.epoch kept.number kept.rows) start gate kept.records m → Leaves (ReadsShort kept kept.records) m
+pub rest_short : (kept : CheckpointRead) (start gate : ℕ) (m : Moment) → (c : IsCheckpoint kept) → IsAtRest (with_image kept.epoch kept.number c.image) start gate kept.records m → Leaves (ReadsShort kept c.image kept.records) m
 rest_short kept start gate m c rest = record {
   each = λ image i.
-      let size = rest_size kept kept.records start gate m rest in
-      let bytes : List ℕ = with_image kept.epoch kept.number kept.rows ++ spelled kept.records ++ 0 ∷ [] in
+      let size = rest_size kept c kept.records start gate m rest in
+      let bytes : List ℕ = with_image kept.epoch kept.number c.image ++ spelled kept.records ++ 0 ∷ [] in
       let is : image ≡ bytes = only bytes image (subst (λ n. IsImage n image) rest.is i) in
       record {
-        reads = (rest_leaves (with_image kept.epoch kept.number kept.rows) start gate kept.records m rest).each image i;
+        reads = (rest_leaves (with_image kept.epoch kept.number c.image) start gate kept.records m rest).each image i;
         short = omega (arith, ap length is, ap (λ (n : Moment). length n.bytes) rest.is, size.0, size.1, gate_fits kept c);
       };
 }
 
 module _ (law : RecordsAreRead) where
   -- what these records are read as
-  pub contents_are : (kept : CheckpointRead) (records : List (List ℕ)) (file : List ℕ) → IsCheckpoint kept → gate_of kept records < 2 ^ 28 → ReadsShort kept records file
-      → file_contents file ≡ Ok (with_records kept.epoch kept.number kept.rows records)
-  contents_are kept records file c fits r = law.says kept.epoch kept.number kept.rows records file c.stored c.some c.epoch c.number fits r.short r.reads
+  pub contents_are : (kept : CheckpointRead) (records : List (List ℕ)) (file : List ℕ) → (c : IsCheckpoint kept) → gate_of kept records < 2 ^ 28 → ReadsShort kept c.image records file
+      → file_contents file ≡ Ok (with_records kept.epoch kept.number kept.rows kept.start records)
+  contents_are kept records file c fits r =
+      let behind : (33 + length c.image) + length (spelled records) < 2 ^ 28 = omega (arith, c.start, fits) in
+      law.says kept.epoch kept.number c.image kept.rows records file c.read_as c.some c.epoch c.number behind r.short r.reads
+      ∙ ap (λ n. Ok (with_records kept.epoch kept.number kept.rows n records)) (sym c.start)
 
-  pub reads_counts : (kept : CheckpointRead) (records : List (List ℕ)) (file : List ℕ) → IsCheckpoint kept → ReadsAs (with_image kept.epoch kept.number kept.rows) records file → Counts kept.epoch file
-  reads_counts kept records file c r = law.counts kept.epoch kept.number kept.rows records file c.epoch r
+  pub reads_counts : (kept : CheckpointRead) (records : List (List ℕ)) (file : List ℕ) → (c : IsCheckpoint kept) → ReadsAs (with_image kept.epoch kept.number c.image) records file → Counts kept.epoch file
+  reads_counts kept records file c r = law.counts kept.epoch kept.number c.image records file c.epoch r
 
   -- beside a file that is passed over
-  pub reads_says : (side : Side) (epoch : ℕ) (kept : CheckpointRead) (records : List (List ℕ)) (file : List ℕ) (idle : Moment) → IsCheckpoint kept → kept.epoch ≡ epoch → IsPassedOver side epoch idle
-      → gate_of kept records < 2 ^ 28 → ReadsShort kept records file → Says (with_records kept.epoch kept.number kept.rows records) (first_of side file idle.bytes) (second_of side file idle.bytes)
+  pub reads_says : (side : Side) (epoch : ℕ) (kept : CheckpointRead) (records : List (List ℕ)) (file : List ℕ) (idle : Moment) → (c : IsCheckpoint kept) → kept.epoch ≡ epoch → IsPassedOver side epoch idle
+      → gate_of kept records < 2 ^ 28 → ReadsShort kept c.image records file → Says (with_records kept.epoch kept.number kept.rows kept.start records) (first_of side file idle.bytes) (second_of side file idle.bytes)
   reads_says side epoch kept records file idle c at p fits r =
       ap as_stored (said_counts side epoch file idle p (subst (λ e. Counts e file) at (reads_counts kept records file c r.reads)) ∙ contents_are kept records file c fits r)
 
-  pub kept_says : (side : Side) (epoch : ℕ) (kept : CheckpointRead) (file : List ℕ) (idle : Moment) → IsCheckpoint kept → kept.epoch ≡ epoch → IsPassedOver side epoch idle
-      → ReadsShort kept kept.records file → Says kept (first_of side file idle.bytes) (second_of side file idle.bytes)
+  pub kept_says : (side : Side) (epoch : ℕ) (kept : CheckpointRead) (file : List ℕ) (idle : Moment) → (c : IsCheckpoint kept) → kept.epoch ≡ epoch → IsPassedOver side epoch idle
+      → ReadsShort kept c.image kept.records file → Says kept (first_of side file idle.bytes) (second_of side file idle.bytes)
   kept_says side epoch kept file idle c at p r = reads_says side epoch kept kept.records file idle c at p (gate_fits kept c) r ∙ ap (λ (read : CheckpointRead). Ok read) (sym c.is)
 
 -- beside whatever a crash leaves of a disk that is passed over
@@ -106,7 +109,7 @@ beside_passed side epoch told P file passed p h e =
 pub stored_says : RecordsAreRead → (side : Side) (epoch start gate : ℕ) (kept : CheckpointRead) (live : Moment) (idle : Option History) → IsStored epoch start gate kept live → Now idle (IsPassedOver side epoch)
     → Leaves (Beside side idle (Says kept)) live
 stored_says law side epoch start gate kept live idle s passed =
-    Leaves-weaker (ReadsShort kept kept.records) (Beside side idle (Says kept)) live
+    Leaves-weaker (ReadsShort kept s.lawful.image kept.records) (Beside side idle (Says kept)) live
     (λ file r. beside_passed side epoch idle (Says kept) file passed (λ m p. kept_says law side epoch kept file m s.lawful s.is_of p r))
     (rest_short kept start gate live s.lawful s.rest)
 

@@ -87,7 +87,7 @@ scanned kept file h = read_is_scanned kept.start file (record { records = kept.r
 
 pub gate_within : (kept : CheckpointRead) (file : List ℕ) → IsHeld kept file → kept.gate ≤ length file
 gate_within kept file h =
-    let p : HeldParts kept file = held_parts kept file h in
+    let p : HeldParts kept h.lawful.image file = held_parts kept file h in
     let s : IsScanned kept.start (drop kept.start file) kept.records kept.gate = scanned kept file h in
     omega (arith, s.to, ap length s.split, length-append (spelled kept.records) s.end, length-drop kept.start file, p.within)
 

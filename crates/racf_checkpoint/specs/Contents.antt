@@ -41,7 +41,7 @@ Says kept first second = contents first second ≡ Ok kept
 
 -- the same checkpoint, and one record more
 abbrev pub and_record : CheckpointRead → (next : List ℕ) → CheckpointRead
-and_record kept next = with_records kept.epoch kept.number kept.rows (kept.records ++ next ∷ [])
+and_record kept next = with_records kept.epoch kept.number kept.rows kept.start (kept.records ++ next ∷ [])
 
 -- two files say the one or the other
 abbrev pub SaysEither : (kept next : CheckpointRead) → (first second : List ℕ) → Type 0

@@ -31,15 +31,16 @@ found_in found = record {
   gate = found.journal.gate;
 }
 
--- All that a disk holds is a file that says this, and a crash changes none of it.
-pub record HoldsRead (kept : CheckpointRead) (live : Moment) : Type 0 where
+-- All that a disk holds is a file that says this of that image, and a crash changes none of it.
+pub record HoldsRead (kept : CheckpointRead) (image : List ℕ) (live : Moment) : Type 0 where
   pub durable : live ≡ durable live.bytes
   pub held : IsHeld kept live.bytes
+  pub image_is : held.lawful.image ≡ image
 
 -- This was read of two disks: the one holds it, and the other doesn't count beside that.
 pub record IsRead (live idle : Option History) (side : Side) (kept : CheckpointRead) : Type 0 where
   pub lawful : IsCheckpoint kept
-  pub holds : Now live (HoldsRead kept)
+  pub holds : Now live (HoldsRead kept lawful.image)
   pub passed : Now idle (IsPassedOver side kept.epoch)
 
 -- Two files say this: it is held by the one that counts, which has `end` from the last gate on.

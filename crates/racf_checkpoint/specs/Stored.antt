@@ -37,7 +37,7 @@ disk_on Second store = pick store.side store.idle store.journal.disk
 pub record IsStored (epoch start gate : ℕ) (kept : CheckpointRead) (live : Moment) : Type 0 where
   pub is_of : kept.epoch ≡ epoch
   pub lawful : IsCheckpoint kept
-  pub rest : IsAtRest (with_image kept.epoch kept.number kept.rows) start gate kept.records live
+  pub rest : IsAtRest (with_image kept.epoch kept.number lawful.image) start gate kept.records live
 
 -- The other disk doesn't count, whatever file of this epoch with an open head gate is on this side; and a crash changes
 -- nothing on it.

@@ -9,7 +9,7 @@ ghost use Rattle.racf_journal.specs.Opening.{OnlySynced};
 ghost use Rattle.racf_journal.specs.Reading.{IsRecord, spelled};
 ghost use Rattle.racf_profiles.specs.Lawful.{AreLawful};
 ghost use Rattle.racf_profiles.specs.NewDatabase.{new_database};
-ghost use Rattle.database_image.specs.Image.{image_of, IsStored as AreStored};
+ghost use Rattle.database_image.specs.Image.{AreImageOf, image_of, IsStored as AreStored};
 ghost use Rattle.checkpoint_disks.specs.declared.counting.Side.{Side};
 ghost use Rattle.checkpoint_disks.specs.Files.{head_is_open, CheckpointRead};
 ghost use Rattle.checkpoint_disks.specs.Compacting.{new_file, new_checkpoint, with_records, IsCheckpoint};
@@ -23,6 +23,7 @@ use crate::sides::{in_order, other};
 use access_levels::Text;
 use checkpoint_disks::Side;
 use checkpoint_disks::laws::records_are_read_behind_an_image;
+use database_image::laws::images_are_of_rows;
 use racf_journal::Journal;
 use racf_outside::{Disk, Two};
 use racf_profiles::Rows;
@@ -104,12 +105,13 @@ impl<D: Disk> Store<D> {
     /// Loads a store: the checkpoint that counts, and the records of its journal. At every moment a crash leaves files
     /// that say what was possible before; after `Ok` it leaves what was loaded. Otherwise the disks are handed back.
     pub fn load(alloc: Global, disks: Two<D>) -> Result<Loaded<D>, (Two<D>, StoreFault)>
-        ensures says { IfOk result (λ loaded. NowRead (D.tells disks.first) (D.tells disks.second) (Says (with_records loaded.store.epoch loaded.number loaded.rows loaded.records.items))) }
-        ensures stores { IfOk result (λ loaded. Stores D.tells loaded.store (with_records loaded.store.epoch loaded.number loaded.rows loaded.records.items)) }
+        ensures says { IfOk result (λ loaded. NowRead (D.tells disks.first) (D.tells disks.second) (Says (with_records loaded.store.epoch loaded.number loaded.rows loaded.start loaded.records.items))) }
+        ensures stores { IfOk result (λ loaded. Stores D.tells loaded.store (with_records loaded.store.epoch loaded.number loaded.rows loaded.start loaded.records.items)) }
         ensures ready { IfOk result (λ loaded. IsReady D.tells loaded.store) }
         ensures rows { IfOk result (λ loaded. AreStored loaded.rows) }
         ensures number { IfOk result (λ loaded. loaded.number ≤ 2 ^ 62) }
-        ensures start { IfOk result (λ loaded. (loaded.start ≡ 33 + length (image_of loaded.rows)) × (loaded.store.journal.start ≡ loaded.start)) }
+        ensures image { IfOk result (λ loaded. (image : List ℕ) × AreImageOf image loaded.rows × (loaded.start ≡ 33 + length image)) }
+        ensures start { IfOk result (λ loaded. loaded.store.journal.start ≡ loaded.start) }
         ensures counted { IfOk result (λ loaded. loaded.store.journal.gate ≡ loaded.start + length (spelled loaded.records.items)) }
         ensures first_moments { MatchResult result (λ loaded. StaysPossible (D.tells disks.first) (D.tells (disk_on Side.First loaded.store))) (λ back. StaysPossible (D.tells disks.first) (D.tells back.0.first)) }
         ensures second_moments { MatchResult result (λ loaded. StaysPossible (D.tells disks.second) (D.tells (disk_on Side.Second loaded.store))) (λ back. StaysPossible (D.tells disks.second) (D.tells back.0.second)) }
@@ -196,6 +198,7 @@ impl<D: Disk> Store<D> {
         ensures no_fewer { D.faults self.old.idle ≤ D.faults (disk_on (other self.old.side) self.new) }
     {
         records_are_read_behind_an_image();
+        images_are_of_rows();
         let Some(epoch) = self.epoch.checked_add(1) else {
             return Ok(());
         };

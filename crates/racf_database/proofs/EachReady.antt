@@ -1,15 +1,14 @@
 -- What each command makes that meets no conflict can be made without memory, once room was taken.
-use Rattle.std.proofs.Common.{◌≡◌, true, cond, [], Option, None, Some, is_some, bytes_eq, refl, sym, ap, ◌∙◌}
+use Rattle.std.proofs.Common.{◌≡◌, true, cond, [], Option, None, Some, is_some, refl, sym, ap, ◌∙◌}
 use Rattle.std.specs.Prelude.{IfSome}
-use Rattle.std.specs.List.{list_any}
-use Rattle.generic_names.specs.Laws.{OneIsBefore, PassedOn, ReadsBack}
+use Rattle.generic_names.specs.Laws.{NotBoth, OneIsBefore, PassedOn, ReadsBack}
 use Rattle.generic_names.specs.declared.kind.NameKind.TheVariants.{DataSet, General}
 use Rattle.racf_profiles.specs.declared.profiles.Profile.{Profile}
 use Rattle.racf_profiles.specs.declared.class_rows.ClassRow.{ClassRow}
 use Rattle.racf_profiles.specs.declared.rows.Rows.{Rows}
 use Rattle.racf_profiles.specs.Edits.{changed}
 use Rattle.racf_profiles.specs.Lookup.{is_profile, user_of, class_of, profile_of}
-use Rattle.racf_profiles.specs.LawfulProfiles.{kind_in, IsProfile}
+use Rattle.racf_profiles.specs.LawfulProfiles.{kind_in, names_of, IsProfile}
 use Rattle.racf_profiles.specs.Lawful.{AreLawful}
 use Rattle.racf_profiles.proofs.Found.{all-found}
 use Rattle.row_tables.specs.Tables.{Tables}
@@ -21,27 +20,30 @@ use Rattle.command_fields.specs.declared.profile_fields.RDefine.{RDefine}
 use Rattle.command_fields.specs.declared.profile_fields.Permit.{Permit}
 use Rattle.command_fields.specs.LawfulFields.{AreLawfulFields}
 use Rattle.command_rules.specs.Effects.{new_user, altered_user, connected_user, removed_user}
-use Rattle.command_rules.specs.ProfileEffects.{dataset, new_data_set, altered_data_set, new_resource, altered_resource}
+use Rattle.command_rules.specs.ProfileEffects.{dataset, new_data_set, altered_data_set, new_resource, altered_resource, altered_class_profile}
+use Rattle.racf_profiles.specs.DynamicClasses.{cdt}
 use Rattle.command_rules.specs.PermitEffects.{permitted_profile, ListsFit, PermitFits}
 use Rattle.command_rules.specs.Edits.{edits_of}
 use Rattle.command_rules.specs.Conflicts.{first_met, conflicts}
 use Rattle.command_rules.specs.ProfileConflicts.{r_define_conflicts, r_define_requirements, r_define_limits, permit_conflicts}
 use Rattle.command_rules.proofs.Unmet.{each_unmet}
-use Rattle.lawful_commands.proofs.FieldFacts.{data_set-lawful, class_profile-lawful}
+use Rattle.lawful_commands.proofs.FieldFacts.{data_set-lawful, class_profile-lawful, class-spelled, class-spelled_if}
 use Rattle.lawful_commands.proofs.GroupCommands.{can_remove, not_root}
 use Rattle.lawful_commands.proofs.Kept.{found-named}
+use Rattle.lawful_commands.proofs.ClassLists.{fixed-there}
 use Rattle.lawful_commands.proofs.ProfileNames.{resource-class}
 use Rattle.lawful_commands.proofs.ProfileRows.{PutsAreCounted, found-profile, is-class}
 use Rattle.lawful_commands.proofs.ProfileCommands.{few-standard, few-conditional}
 use Rattle.racf_database.proofs.Ready.{new_user-ready, user-ready, new_group-ready, group-ready}
 use Rattle.racf_database.proofs.OptionReady.{set_ropts-ready}
+use Rattle.racf_database.proofs.ClassReady.{define_class-ready, r_delete-ready}
 use Rattle.racf_database.proofs.ProfileReady.{profile-ready, changed-ready, alone-ready}
 
 found-row : (o : Option ClassRow) → is_some o ≡ true → (row : ClassRow) × (o ≡ Some row)
 found-row None h = cc
 found-row (Some row) h = (row, refl)
 
-module _ (one : OneIsBefore) (puts : PutsAreCounted) (passed_on : PassedOn) (reads_back : ReadsBack) where
+module _ (one : OneIsBefore) (puts : PutsAreCounted) (passed_on : PassedOn) (not_both : NotBoth) (reads_back : ReadsBack) where
   -- ---- PERMIT leaves lists that fit
   module _ (issuer : Issuer) (c : Permit) (rows : Rows) (lawful : AreLawful rows) (met : first_met (permit_conflicts issuer c rows) ≡ None) where
     lists-fit : (old : Profile) → profile_of c.class c.profile rows ≡ Some old → ListsFit c old
@@ -72,7 +74,7 @@ module _ (one : OneIsBefore) (puts : PutsAreCounted) (passed_on : PassedOn) (rea
 
   -- ---- DATASET is there
   data_sets : (rows : Rows) → AreLawful rows → (row : ClassRow) × (class_of dataset rows ≡ Some row)
-  data_sets rows lawful = found-row (class_of dataset rows) (found-named dataset rows.classes ∙ ap (list_any (λ other. bytes_eq other dataset)) lawful.classes.fixed)
+  data_sets rows lawful = found-row (class_of dataset rows) (found-named dataset rows.classes ∙ fixed-there dataset (names_of rows.classes) lawful.classes.names refl)
 
   module _ (tables : Tables) (lawful : AreLawful tables.rows) where
     pub can_apply-edits_of : (issuer : Issuer) (c : CommandFields) → AreLawfulFields c → first_met (conflicts issuer c tables.rows) ≡ None → HasRoom tables (edits_of issuer c tables.rows)
@@ -97,9 +99,11 @@ module _ (one : OneIsBefore) (puts : PutsAreCounted) (passed_on : PassedOn) (rea
         (general-kind issuer c tables.rows h (class_profile-lawful c.class c.profile f.profile reads_back).1) room after
     can_apply-edits_of issuer (command.RAlter c) f h room after =
         changed-ready tables one puts passed_on lawful c.class c.profile (altered_resource c tables.rows) (λ p. refl) c.addmem tables.rows.options (profile_of c.class c.profile tables.rows) refl room after
-    can_apply-edits_of issuer (command.DefineClass c) f h room after = tt
-    can_apply-edits_of issuer (command.AlterClass c) f h room after = tt
-    can_apply-edits_of issuer (command.RDelete c) f h room after = (tt, tt)
+    can_apply-edits_of issuer (command.DefineClass c) f h room after =
+        define_class-ready tables issuer c f h room after (class_profile-lawful cdt c.profile f.profile reads_back).1 (class-spelled c.profile f.profile)
+    can_apply-edits_of issuer (command.AlterClass c) f h room after =
+        alone-ready tables one puts passed_on lawful cdt c.profile (altered_class_profile c) (λ p. refl) (profile_of cdt c.profile tables.rows) refl room after
+    can_apply-edits_of issuer (command.RDelete c) f h room after = r_delete-ready one puts passed_on not_both tables c lawful (class-spelled_if c.class c.profile f.profile) f.kind h
     can_apply-edits_of issuer (command.Permit c) f h room after =
         alone-ready tables one puts passed_on lawful c.class c.profile (permitted_profile c) (λ p. refl) (profile_of c.class c.profile tables.rows) refl room after
     can_apply-edits_of issuer (command.SetRopts c) f h room after = set_ropts-ready tables c lawful

@@ -4,4 +4,5 @@ pub mod OptionReady
 pub mod StepLaws
 pub mod Ready
 pub mod ProfileReady
+pub mod ClassReady
 pub mod EachReady

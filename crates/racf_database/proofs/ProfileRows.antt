@@ -29,7 +29,7 @@ use Rattle.command_rules.specs.PermitEffects.{permitted_profile}
 use Rattle.command_rules.specs.Members.{members_after}
 use Rattle.command_rules.specs.Required.{first_met, no_owner, unknown_level, unknown_category, never_category, unknown_label}
 use Rattle.command_rules.specs.Conflicts.{has_profile}
-use Rattle.command_rules.specs.ProfileConflicts.{profiles_in, no_first_qualifier, no_permitted, no_such_class, no_resource_class, no_resource_profile, no_global_class, no_profile, profile_taken, not_generic, class_profiles_full, profiles_full, standard_full, conditional_full, entries_full, members_full, categories_full, add_sd_conflicts, add_sd_requirements, add_sd_limits, alt_sd_conflicts, r_define_conflicts, r_define_requirements, r_define_limits, r_alter_conflicts, r_delete_conflicts, permit_conflicts}
+use Rattle.command_rules.specs.ProfileConflicts.{profiles_in, no_first_qualifier, no_permitted, no_such_class, no_resource_class, no_resource_profile, no_global_class, no_profile, profile_taken, not_generic, name_not_allowed, class_profiles_full, profiles_full, standard_full, conditional_full, entries_full, members_full, categories_full, add_sd_conflicts, add_sd_requirements, add_sd_limits, alt_sd_conflicts, r_define_conflicts, r_define_requirements, r_define_limits, r_alter_conflicts, r_delete_conflicts, permit_conflicts}
 
 abbrev start : Rows
 start = new_rows (λ _. true)
@@ -88,7 +88,7 @@ alt_sd_rows = refl
 r_define_rows : map (λ (c : RDefine). first_met (r_define_conflicts ibm c some_profiles))
     (r_define (codes "NONE") (codes "A") ∷ r_define dataset (codes "A") ∷ r_define (codes "GLOBAL") (codes "NONE") ∷ r_define (codes "GLOBAL") (codes "FACILITY") ∷ r_define (codes "FACILITY") (codes "A.*") ∷ r_define (codes "SECLABEL") (codes "A*") ∷ r_define (codes "FACILITY") (codes "B") ∷ [])
     ≡ Some (NoClass (codes "NONE")) ∷ Some (NoClass dataset) ∷ Some (NoClass (codes "NONE")) ∷ None ∷ Some (Exists (named.Profile (general (codes "A.*")))) ∷ Some (NotGeneric (codes "SECLABEL")) ∷ None ∷ []
-unfolding no_owner unknown_level unknown_category unknown_label no_resource_class no_global_class profile_taken not_generic class_profiles_full profiles_full members_full categories_full r_define_requirements r_define_limits
+unfolding no_owner unknown_level unknown_category unknown_label no_resource_class no_global_class profile_taken not_generic class_profiles_full profiles_full members_full categories_full name_not_allowed r_define_requirements r_define_limits
 r_define_rows = refl
 
 -- RALT DATASET A | RALT FACILITY B | RALT FACILITY A.*; RDEL FACILITY B | RDEL NONE B

@@ -16,9 +16,10 @@ use Rattle.command_fields.specs.declared.fields.CommandFields.TheVariants as fie
 use Rattle.command_rules.specs.Effects.{at_row, step, new_user, altered_user, new_group, altered_group, connected_user, removed_user}
 use Rattle.command_rules.specs.Edits.{edits_of, put_user, put_group}
 use Rattle.command_rules.specs.Conflicts.{first_met, conflicts, add_user_conflicts, add_group_conflicts}
-use Rattle.command_rules.specs.ProfileEffects.{dataset, altered_data_set}
+use Rattle.command_rules.specs.ProfileEffects.{dataset, altered_data_set, altered_class_profile}
+use Rattle.racf_profiles.specs.DynamicClasses.{cdt}
 use Rattle.command_rules.specs.PermitEffects.{permitted_profile}
-use Rattle.command_rules.proofs.ProfileSteps.{changed-put_changed, changed-r_define, changed-r_alter}
+use Rattle.command_rules.proofs.ProfileSteps.{changed-put_changed, changed-r_define, changed-r_alter, changed-define_class, changed-r_delete}
 use Rattle.row_tables.proofs.RowLaws.{put_row-at_row, put_row-new}
 use Rattle.command_rules.proofs.AfterLaws.{at_row-absent}
 use Rattle.racf_profiles.specs.Lawful.{AreLawful}
@@ -74,8 +75,8 @@ changed-edits_of issuer (fields.AltSd c) rows lawful h = changed-put_changed dat
 changed-edits_of issuer (fields.DelSd c) rows lawful h = refl
 changed-edits_of issuer (fields.RDefine c) rows lawful h = changed-r_define issuer c rows
 changed-edits_of issuer (fields.RAlter c) rows lawful h = changed-r_alter c rows
-changed-edits_of issuer (fields.DefineClass c) rows lawful h = refl
-changed-edits_of issuer (fields.AlterClass c) rows lawful h = refl
-changed-edits_of issuer (fields.RDelete c) rows lawful h = refl
+changed-edits_of issuer (fields.DefineClass c) rows lawful h = changed-define_class issuer c rows
+changed-edits_of issuer (fields.AlterClass c) rows lawful h = changed-put_changed cdt c.profile (altered_class_profile c) rows
+changed-edits_of issuer (fields.RDelete c) rows lawful h = changed-r_delete c rows lawful.users.distinct
 changed-edits_of issuer (fields.Permit c) rows lawful h = changed-put_changed c.class c.profile (permitted_profile c) rows
 changed-edits_of issuer (fields.SetRopts c) rows lawful h = changed-set_ropts c rows h lawful

@@ -6,7 +6,7 @@ ghost use Rattle.racf_profiles.specs.Edits.{changed};
 ghost use Rattle.racf_profiles.specs.State.{is_of_copies};
 ghost use Rattle.racf_profiles.specs.Lawful.{AreLawful, LeaveLawfulClasses};
 ghost use Rattle.command_rules.specs.Effects.{step};
-ghost use Rattle.command_rules.specs.Edits.{edits_of, is_set_ropts};
+ghost use Rattle.command_rules.specs.Edits.{edits_of, edits_copies};
 ghost use Rattle.command_rules.specs.Conflicts.{conflict_of};
 
 use crate::database::Database;
@@ -39,7 +39,7 @@ impl Database {
         ensures step { IfOk result (λ change. changed change.edits self.old.rows ≡ step issuer.now command.now self.old.rows) }
         ensures lawful { IfOk result (λ change. AreLawful (changed change.edits self.old.rows)) }
         ensures classes { IfOk result (λ change. LeaveLawfulClasses change.edits self.old.rows) }
-        ensures listed { IfOk result (λ change. IsFalse (is_set_ropts command.now) → IsTrue (list_all (λ (edit : Edit). not (is_of_copies edit)) change.edits)) }
+        ensures listed { IfOk result (λ change. IsFalse (edits_copies command.now) → IsTrue (list_all (λ (edit : Edit). not (is_of_copies edit)) change.edits)) }
         ensures prepared { IfOk result (λ change. self.new.prepared ≡ Some change) }
         ensures rows { self.new.rows ≡ self.old.rows }
         ensures refused { OnErr result (self.new.prepared ≡ None) }

@@ -1,6 +1,6 @@
 -- What a desk keeps on its disks: how an append leads them on, and what crashes leave.
 use Rattle.std.proofs.Common.{◌≡◌, ℕ, ◌+◌, ◌-◌, ◌<◌, ◌≤◌, ◌^◌, Bool, true, false, cond, ltb, List, [], ◌∷◌, ◌++◌, length, Option, Some, None, Result, Ok, Err, ◌⊎◌, inl, inr, refl, sym, ◌∙◌, ap, subst, arith, length-append}
-use Rattle.std.specs.Prelude.{nat_lt, min, MatchOption, IsSome}
+use Rattle.std.specs.Prelude.{nat_lt, min, MatchOption, IsOk, IsSome}
 use Rattle.std.specs.Option.{option_map}
 use Rattle.std.specs.Arc.{arc_value}
 use Rattle.std.proofs.Math.Nat.{min-eq_left}
@@ -24,13 +24,14 @@ use Rattle.journal_records.specs.Spelling.{spelled}
 use Rattle.racf_database.specs.Contents.{Contents as Database}
 use Rattle.desk_rules.specs.declared.answers.Ready.{Ready}
 use Rattle.racf_desk.specs.declared.desk.Desk.TheInside.{Inside}
+use Rattle.raclist_image.specs.Imaged.{Imaged}
 use Rattle.desk_rules.specs.declared.refusal.Refusal.{Refusal}
 use Rattle.desk_rules.specs.declared.refusal.Refusal.TheVariants as refusal
 use Rattle.desk_rules.specs.Images.{IsImageOf}
 use Rattle.desk_rules.specs.Outcome.{most_bytes, first_of, rules_of, journal_full, number_spent, refusal_of, outcome_in, outcome}
-use Rattle.desk_rules.specs.Position.{Position, at_checkpoint, start_behind, compacted, position_after, restarted}
+use Rattle.desk_rules.specs.Position.{Position, start_behind, compacted, position_after, restarted}
 use Rattle.desk_rules.specs.Made.{Made, DeskOn, made_at, made_in, made_of_outcome, installed, is_fresh, IsRecorded}
-use Rattle.desk_rules.specs.Recovery.{base_of, recovered_from, recovered, StandsFor, StandsForEither, outcome_again}
+use Rattle.desk_rules.specs.Recovery.{base_of, recovered, StandsFor, StandsForEither, outcome_again}
 use Rattle.desk_rules.specs.Durable.{LeadTo, StandsThere, LeavesIt, LeavesCheckpoint, StaysEither, StaysThere, stands_at}
 use Rattle.racf_desk.specs.Kept.{contents_of, IsReady, IsKept}
 use Rattle.desk_rules.proofs.RecoveryLaws.{accepted_leads, leads_on, standing_is}
@@ -54,9 +55,7 @@ has_room gate given h = by (nat_lt most_bytes ((gate + 1) + (length (spelled giv
 -- What is made of an accepted command leads on from the position.
 leading : (position : Position) (given : CommandRecord) → IsRecorded given → outcome_again position given ≡ Ok given
     → (kept : CheckpointRead) → IsCheckpoint kept → LeadTo position kept → LeadTo (installed position (made_at position.image given)) (and_record kept (spelled given))
-leading position given recorded accepted kept lawful leads =
-    ap (λ start. recovered_from (at_checkpoint kept.rows kept.number start) (kept.records ++ spelled given ∷ [])) (sym (ap (λ (read : CheckpointRead). read.start) lawful.is))
-    ∙ leads_on (base_of kept) position given kept.records recorded.read accepted leads
+leading position given recorded accepted kept lawful leads = leads_on (base_of kept) position given kept.records recorded.read accepted leads
 
 ready_at : (database : Database) (position : Position) (given : CommandRecord) (made : Made) → made ≡ made_at position.image given
     → database.prepared ≡ Some made.change → IsImageOf (changed made.change.edits database.rows) made.behind
@@ -94,6 +93,11 @@ behind_made position (Ok given) made h =
     let same : made_at position.image given ≡ made = cc in
     ap (installed position) same
 behind_made position (Err why) made h = cc
+
+-- only of an accepted command anything is made
+pub made_of_accepted : (image : Imaged) (one : Result CommandRecord Refusal) (made : Made) → made_of_outcome image one ≡ Ok made → IsOk one
+made_of_accepted image (Ok given) made h = refl
+made_of_accepted image (Err why) made h = absurd cc
 
 -- what an option that is there has
 pub some_has : {X : Type 0} (P : X → Type 0) (o : Option X) (x : X) → o ≡ Some x → MatchOption o (Unit {0}) P → P x
@@ -187,10 +191,22 @@ spelled_more [] next = omega (arith, length-append next [])
 spelled_more (first ∷ records) next = omega (arith, spelled_more records next, length-append first (spelled_records records), length-append first (spelled_records (records ++ next ∷ [])))
 
 gate_more : (kept : CheckpointRead) (next : List ℕ) (gate : ℕ) → IsCheckpoint kept → gate ≡ kept.gate → gate + 1 + length next ≡ (and_record kept next).gate
-gate_more kept next gate lawful at = let ends : kept.gate ≡ (33 + length (image_of kept.rows)) + length (spelled_records kept.records) = ap (λ (read : CheckpointRead). read.gate) lawful.is in omega (arith, at, ends, spelled_more kept.records next)
+gate_more kept next gate lawful at = let ends : kept.gate ≡ kept.start + length (spelled_records kept.records) = ap (λ (read : CheckpointRead). read.gate) lawful.is in omega (arith, at, ends, spelled_more kept.records next)
 
 one_more : (kept : CheckpointRead) (next : List ℕ) → IsCheckpoint kept → (and_record kept next).gate < 2 ^ 28 → IsCheckpoint (and_record kept next)
-one_more kept next lawful fits = record { some = lawful.some; epoch = lawful.epoch; number = lawful.number; stored = lawful.stored; size = lawful.size; fits = fits; is = refl }
+one_more kept next lawful fits = record {
+  some = lawful.some;
+  epoch = lawful.epoch;
+  number = lawful.number;
+  stored = lawful.stored;
+  image = lawful.image;
+  image_is = lawful.image_is;
+  read_as = lawful.read_as;
+  size = lawful.size;
+  start = lawful.start;
+  fits = fits;
+  is = refl;
+}
 
 -- Behind it the store stands at the next.
 append_stands : {D : Type 0} (tells : D → Option History) (old new : StoreOn D) (position : Position) (made : Made) → StandsThere tells old position → Leads position made

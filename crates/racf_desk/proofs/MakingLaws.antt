@@ -5,7 +5,7 @@ use Rattle.std.specs.List.{list_all}
 use Rattle.std.proofs.lemmas.Bool.{leb-false, and_parts}
 use Rattle.racf_profiles.specs.declared.rows.Rows.{Rows}
 use Rattle.racf_profiles.specs.declared.edits.Edit.{Edit}
-use Rattle.racf_profiles.specs.declared.edits.Edit.TheVariants.{List as ListCopy, Unlist}
+use Rattle.racf_profiles.specs.declared.edits.Edit.TheVariants.{List as ListCopy, Unlist, DropClass}
 use Rattle.racf_profiles.specs.Edits.{changed}
 use Rattle.racf_profiles.specs.State.{State, ListedCopy, copies_after, is_of_copies, edited_state, changed_state}
 use Rattle.racf_profiles.specs.declared.edits.Change.{Change}
@@ -14,7 +14,7 @@ use Rattle.command_fields.specs.declared.fields.CommandFields.{CommandFields}
 use Rattle.command_fields.specs.declared.fields.CommandFields.TheVariants as fields
 use Rattle.command_parser.specs.Canonical.{canonical}
 use Rattle.command_rules.specs.Effects.{step}
-use Rattle.command_rules.specs.Edits.{edits_of, is_set_ropts}
+use Rattle.command_rules.specs.Edits.{edits_of, edits_copies}
 use Rattle.raclist_image.specs.Imaged.{Imaged}
 use Rattle.desk_rules.specs.declared.refusal.Refusal.TheVariants as refusal
 use Rattle.journal_records.specs.declared.record.CommandRecord.{CommandRecord}
@@ -35,7 +35,7 @@ unspent number h = by (nat_le most_number number) refl h
 pub within : (number : ℕ) → nat_le most_number number ≡ false → number + 1 ≤ most_number
 within number h = let below : number < most_number = leb-false most_number number h in omega arith
 
--- edits that list and unlist no class leave the listed copies
+-- edits that list, unlist and drop no class leave the listed copies
 copies-kept : (edits : List Edit) (state : State) → list_all (λ (edit : Edit). not (is_of_copies edit)) edits ≡ true → (changed_state edits state).copies ≡ state.copies
 copies-kept [] state h = refl
 copies-kept (edit ∷ edits) state h =
@@ -45,16 +45,18 @@ copies-kept (edit ∷ edits) state h =
     kept : (e : Edit) → not (is_of_copies e) ≡ true → copies_after e state ≡ state.copies
     kept (ListCopy name) unlisted = cc
     kept (Unlist name) unlisted = cc
+    kept (DropClass name) unlisted = cc
     kept other unlisted = refl
 
 copies-behind : (issuer : Issuer) (command : CommandFields) (edits : List Edit) (state : State) → edits ≡ edits_of issuer command state.rows
-    → (IsFalse (is_set_ropts command) → list_all (λ (edit : Edit). not (is_of_copies edit)) edits ≡ true) → (changed_state edits state).copies ≡ copies_behind command state
+    → (IsFalse (edits_copies command) → list_all (λ (edit : Edit). not (is_of_copies edit)) edits ≡ true) → (changed_state edits state).copies ≡ copies_behind command state
 copies-behind issuer (fields.SetRopts c) edits state are others = ap (λ (es : List Edit). (changed_state es state).copies) are
+copies-behind issuer (fields.RDelete c) edits state are others = ap (λ (es : List Edit). (changed_state es state).copies) are
 copies-behind issuer command edits state are others = copies-kept edits state (others refl)
 
 -- the state behind the edits of a command
 pub behind : (given : CommandRecord) (edits : List Edit) (state : State) → edits ≡ edits_of given.issuer given.command state.rows → changed edits state.rows ≡ step given.issuer given.command state.rows
-    → (changed_state edits state).rows ≡ changed edits state.rows → (IsFalse (is_set_ropts given.command) → list_all (λ (edit : Edit). not (is_of_copies edit)) edits ≡ true)
+    → (changed_state edits state).rows ≡ changed edits state.rows → (IsFalse (edits_copies given.command) → list_all (λ (edit : Edit). not (is_of_copies edit)) edits ≡ true)
     → changed_state edits state ≡ state_behind state given
 behind given edits state are makes law others =
     ap (λ (rows : Rows). record { rows = rows; copies = (changed_state edits state).copies }) (law ∙ makes)

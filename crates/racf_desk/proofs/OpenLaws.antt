@@ -67,10 +67,7 @@ of_parts kept rows number start records rows_are counts starts are = sym (
 
 -- The last gate of a checkpoint is behind its records.
 counted : (kept : CheckpointRead) → IsCheckpoint kept → kept.gate ≡ kept.start + length (spelled kept.records)
-counted kept lawful =
-    let gate = ap (λ (read : CheckpointRead). read.gate) lawful.is in
-    let start = ap (λ (read : CheckpointRead). read.start) lawful.is in
-    omega arith
+counted kept lawful = ap (λ (read : CheckpointRead). read.gate) lawful.is
 
 -- The store that was opened stands where its checkpoint leads.
 pub stands_there : {D : Type 0} (tells : D → Option History) (store : StoreOn D) (kept : CheckpointRead) (position : Position) → IsCheckpoint kept → Stores tells store kept

@@ -1,17 +1,17 @@
 -- Which classes have listed copies, after a restart and after edits.
-use Rattle.std.proofs.Common.{◌≡◌, ℕ, Bool, true, false, cond, not, ◌&&◌, List, [], ◌∷◌, map, Option, Some, None, is_some, bytes_eq, refl, sym, ◌∙◌, ap, ⊎_elim}
+use Rattle.std.proofs.Common.{◌≡◌, ℕ, Bool, true, false, cond, not, ◌&&◌, List, [], ◌∷◌, ◌++◌, map, Option, Some, None, is_some, bytes_eq, refl, sym, ◌∙◌, ap, ⊎_elim}
 use Rattle.std.specs.List.{find, filter, list_all}
 use Rattle.std.specs.Option.{option_map_or}
 use Rattle.std.proofs.lemmas.Bool.{cases_Bool, and_parts, not-true}
 use Rattle.racf_profiles.specs.declared.class_rows.ClassRow.{ClassRow}
 use Rattle.racf_profiles.specs.declared.rows.Rows.{Rows}
 use Rattle.racf_profiles.specs.declared.edits.Edit.{Edit}
-use Rattle.racf_profiles.specs.declared.edits.Edit.TheVariants.{PutUser, DropUser, PutGroup, DropGroup, PutProfile, DropProfile, PutOptions, PutClass, List as ListCopy, Unlist}
+use Rattle.racf_profiles.specs.declared.edits.Edit.TheVariants.{PutUser, DropUser, PutGroup, DropGroup, PutProfile, DropProfile, PutOptions, PutClass, List as ListCopy, Unlist, AddClass, DropClass}
 use Rattle.racf_profiles.specs.Lookup.{is_class, class_of}
-use Rattle.racf_profiles.specs.Edits.{put_row, drop_row, at_class, with_profile, without_profile, with_flags, with_listed, edited, changed}
+use Rattle.racf_profiles.specs.Edits.{put_row, drop_row, at_class, with_profile, without_profile, with_flags, with_listed, added_class, without_class, edited, changed}
 use Rattle.racf_profiles.specs.State.{State, ListedCopy, HaveCopies, is_copy_of, copy_of_class, is_none_listed, is_of_copies, restart, edited_state, changed_state}
 use Rattle.racf_profiles.proofs.Found.{find-miss}
-use Rattle.racf_profiles.proofs.EditLaws.{put_row-found, put_row-others, at_class-absent}
+use Rattle.racf_profiles.proofs.EditLaws.{put_row-found, put_row-others, at_class-absent, without_class-own, without_class-others, without_class-absent}
 use Rattle.racf_profiles.proofs.States.{find-passes, copies_of, copies_of-others, copies_of-listed, at_class-hit, at_class-miss, at_class-found, listed_in, listed_in-hit, listed_in-miss, edit-listed, edit-copies}
 use Rattle.racf_profiles.proofs.Named.{same, itself}
 
@@ -96,6 +96,18 @@ module _ (class : List ℕ) (state : State) (have : HaveCopies state) (name : Li
       (have name (sym (at_class-elsewhere name class (with_listed false) classes (λ r. refl) differ) ∙ listed)))
       (cases_Bool (bytes_eq class name))
 
+  dropped_class-copied : (o : Option ClassRow) → class_of class state.rows ≡ o → listed_in name (without_class class classes) ≡ true
+      → is_some (find (is_copy_of name) (option_map_or (λ (row : ClassRow). drop_row (is_copy_of class) state.copies) o state.copies)) ≡ true
+  dropped_class-copied None absent listed = have name (sym (ap (listed_in name) (without_class-absent class classes absent)) ∙ listed)
+  dropped_class-copied (Some row) found listed = ⊎_elim
+      (λ (own : bytes_eq class name ≡ true).
+      let none : listed_in name (without_class class classes) ≡ false =
+      ap (λ n. listed_in name (without_class n classes)) (same class name own) ∙ ap (λ o. option_map_or (λ (r : ClassRow). r.listed) o false) (without_class-own name classes) in
+      let no : true ≡ false = sym listed ∙ none in cc)
+      (λ (differ : bytes_eq class name ≡ false). dropped-copied name class state.copies differ
+      (have name (sym (ap (λ o. option_map_or (λ (r : ClassRow). r.listed) o false) (without_class-others class name classes differ)) ∙ listed)))
+      (cases_Bool (bytes_eq class name))
+
 pub edit-copied : (edit : Edit) (state : State) → HaveCopies state → HaveCopies (edited_state edit state)
 edit-copied (PutUser user) state have = other-copied (PutUser user) state refl have
 edit-copied (DropUser id) state have = other-copied (DropUser id) state refl have
@@ -107,6 +119,8 @@ edit-copied (PutOptions options) state have = other-copied (PutOptions options) 
 edit-copied (PutClass class active global log) state have = other-copied (PutClass class active global log) state refl have
 edit-copied (ListCopy class) state have = λ name listed. listed-copied class state have name (class_of class state.rows) refl listed
 edit-copied (Unlist class) state have = λ name listed. unlisted-copied class state have name (class_of class state.rows) refl listed
+edit-copied (AddClass class) state have = other-copied (AddClass class) state refl have
+edit-copied (DropClass class) state have = λ name listed. dropped_class-copied class state have name (class_of class state.rows) refl listed
 
 -- ---- no class is listed
 abbrev none_in : List ClassRow → Bool
@@ -125,6 +139,10 @@ none-at_class name change (class ∷ classes) keeps = ⊎_elim
     (λ (miss : is_class name class ≡ false). ap none_in (at_class-miss name change class classes miss) ∙ ap (λ b. not class.listed && b) (none-at_class name change classes keeps))
     (cases_Bool (is_class name class))
 
+none-added : (class : List ℕ) (classes : List ClassRow) → none_in (classes ++ added_class class ∷ []) ≡ none_in classes
+none-added class [] = refl
+none-added class (row ∷ classes) = ap (λ b. not row.listed && b) (none-added class classes)
+
 edit-none : (edit : Edit) (rows : Rows) → is_of_copies edit ≡ false → is_none_listed (edited edit rows) ≡ is_none_listed rows
 edit-none (PutUser user) rows other = refl
 edit-none (DropUser id) rows other = refl
@@ -136,6 +154,8 @@ edit-none (PutOptions options) rows other = refl
 edit-none (PutClass class active global log) rows other = none-at_class class (with_flags active global log) rows.classes (λ row. refl)
 edit-none (ListCopy class) rows other = cc
 edit-none (Unlist class) rows other = cc
+edit-none (AddClass class) rows other = none-added class rows.classes
+edit-none (DropClass class) rows other = cc
 
 abbrev others : List Edit → Bool
 others edits = list_all (λ (edit : Edit). not (is_of_copies edit)) edits

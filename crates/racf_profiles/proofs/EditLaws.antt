@@ -1,5 +1,5 @@
 -- What edits leave, by induction on the rows.
-use Rattle.std.proofs.Common.{◌≡◌, ℕ, ◌≤◌, Bool, true, false, cond, List, [], ◌∷◌, length, Some, None, option_and_then, refl, sym, ◌∙◌, ap, arith, ⊎_elim}
+use Rattle.std.proofs.Common.{◌≡◌, ℕ, ◌≤◌, Bool, true, false, cond, not, List, [], ◌∷◌, length, Some, None, option_and_then, refl, sym, ◌∙◌, ap, arith, ⊎_elim}
 use Rattle.std.specs.List.{find, AllByRecursion}
 use Rattle.std.specs.Str.{bytes_eq}
 use Rattle.std.proofs.lemmas.Bool.{cases_Bool}
@@ -7,7 +7,7 @@ use Rattle.std.proofs.lemmas.Slice.Eq.{bytes_eq-Decides}
 use Rattle.generic_names.specs.Spelled.{Spelled}
 use Rattle.racf_profiles.specs.declared.class_rows.ClassRow.{ClassRow}
 use Rattle.racf_profiles.specs.Lookup.{is_class, is_profile}
-use Rattle.racf_profiles.specs.Edits.{put_row, drop_row, at_class, without_profile}
+use Rattle.racf_profiles.specs.Edits.{put_row, drop_row, at_class, without_profile, without_class}
 use Rattle.racf_profiles.proofs.Found.{find-hit, find-miss}
 
 -- A row that isn't there isn't dropped.
@@ -75,3 +75,35 @@ put_row-others p q x (y ∷ ys) isnt apart = ⊎_elim
 -- Who has the one name hasn't the other.
 pub other_name : (name one other : List ℕ) → bytes_eq one other ≡ false → bytes_eq name one ≡ true → bytes_eq name other ≡ false
 other_name name one other differ same = ap (λ n. bytes_eq n other) ((bytes_eq-Decides name one).0 same) ∙ differ
+
+-- ---- a class that goes
+-- No class of the name is left.
+pub without_class-own : (name : List ℕ) (classes : List ClassRow) → find (is_class name) (without_class name classes) ≡ None
+without_class-own name [] = refl
+without_class-own name (class ∷ classes) = ⊎_elim
+    (λ (hit : is_class name class ≡ true). ap (λ b. find (is_class name) (cond (not b) (class ∷ without_class name classes) (without_class name classes))) hit ∙ without_class-own name classes)
+    (λ (miss : is_class name class ≡ false).
+    ap (λ b. find (is_class name) (cond (not b) (class ∷ without_class name classes) (without_class name classes))) miss
+    ∙ find-miss (is_class name) class (without_class name classes) miss ∙ without_class-own name classes)
+    (cases_Bool (is_class name class))
+
+-- Those of other names are found as before.
+pub without_class-others : (gone name : List ℕ) (classes : List ClassRow) → bytes_eq gone name ≡ false → find (is_class name) (without_class gone classes) ≡ find (is_class name) classes
+without_class-others gone name [] differ = refl
+without_class-others gone name (class ∷ classes) differ = ⊎_elim
+    (λ (hit : is_class gone class ≡ true).
+    ap (λ b. find (is_class name) (cond (not b) (class ∷ without_class gone classes) (without_class gone classes))) hit
+    ∙ without_class-others gone name classes differ ∙ sym (find-miss (is_class name) class classes (other_name class.name gone name differ hit)))
+    (λ (miss : is_class gone class ≡ false).
+    ap (λ b. find (is_class name) (cond (not b) (class ∷ without_class gone classes) (without_class gone classes))) miss
+    ∙ ap (λ o. cond (is_class name class) (Some class) o) (without_class-others gone name classes differ))
+    (cases_Bool (is_class gone class))
+
+-- A class that isn't there doesn't go.
+pub without_class-absent : (name : List ℕ) (classes : List ClassRow) → find (is_class name) classes ≡ None → without_class name classes ≡ classes
+without_class-absent name [] absent = refl
+without_class-absent name (class ∷ classes) absent = ⊎_elim
+    (λ (hit : is_class name class ≡ true). let found : Some class ≡ None = sym (find-hit (is_class name) class classes hit) ∙ absent in cc)
+    (λ (miss : is_class name class ≡ false). ap (λ b. cond (not b) (class ∷ without_class name classes) (without_class name classes)) miss
+    ∙ ap (λ rest. class ∷ rest) (without_class-absent name classes (sym (find-miss (is_class name) class classes miss) ∙ absent)))
+    (cases_Bool (is_class name class))

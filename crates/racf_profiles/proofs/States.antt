@@ -1,5 +1,5 @@
 -- What listed copies are after a restart and after edits.
-use Rattle.std.proofs.Common.{◌≡◌, ◌↔◌, ℕ, Bool, true, false, cond, not, List, [], ◌∷◌, map, Option, Some, None, IsSome, option_map, refl, sym, ◌∙◌, ap, ⊎_elim}
+use Rattle.std.proofs.Common.{◌≡◌, ◌↔◌, ℕ, Bool, true, false, cond, not, List, [], ◌∷◌, ◌++◌, map, Option, Some, None, IsSome, option_map, refl, sym, ◌∙◌, ap, ⊎_elim}
 use Rattle.std.specs.List.{find, filter, list_all}
 use Rattle.std.specs.Option.{option_map_or}
 use Rattle.std.proofs.lemmas.Bool.{cases_Bool, and_parts, not-true}
@@ -7,9 +7,9 @@ use Rattle.racf_profiles.specs.declared.profiles.Profile.{Profile}
 use Rattle.racf_profiles.specs.declared.class_rows.ClassRow.{ClassRow}
 use Rattle.racf_profiles.specs.declared.rows.Rows.{Rows}
 use Rattle.racf_profiles.specs.declared.edits.Edit.{Edit}
-use Rattle.racf_profiles.specs.declared.edits.Edit.TheVariants.{PutUser, DropUser, PutGroup, DropGroup, PutProfile, DropProfile, PutOptions, PutClass, List as ListCopy, Unlist}
+use Rattle.racf_profiles.specs.declared.edits.Edit.TheVariants.{PutUser, DropUser, PutGroup, DropGroup, PutProfile, DropProfile, PutOptions, PutClass, List as ListCopy, Unlist, AddClass, DropClass}
 use Rattle.racf_profiles.specs.Lookup.{is_class, class_of}
-use Rattle.racf_profiles.specs.Edits.{put_row, at_class, with_profile, without_profile, with_flags, with_listed, edited}
+use Rattle.racf_profiles.specs.Edits.{put_row, at_class, with_profile, without_profile, with_flags, with_listed, added_class, edited}
 use Rattle.racf_profiles.specs.State.{State, ListedCopy, is_copy_of, copy_of_class, copy_of, effective, is_listed, is_of_copies, edited_state, changed_state}
 use Rattle.racf_profiles.proofs.Found.{find-hit, find-miss}
 use Rattle.racf_profiles.proofs.EditLaws.{put_row-found}
@@ -128,6 +128,17 @@ at_class-listed name other change (class ∷ classes) names lists = ⊎_elim
     (cases_Bool (is_class name class)))
     (cases_Bool (is_class other class))
 
+-- A class that is added isn't listed, and the others are as they were.
+added-listed : (name class : List ℕ) (classes : List ClassRow) → listed_in name (classes ++ added_class class ∷ []) ≡ listed_in name classes
+added-listed name class [] = ⊎_elim
+    (λ (hit : is_class name (added_class class) ≡ true). listed_in-hit name (added_class class) [] hit)
+    (λ (miss : is_class name (added_class class) ≡ false). listed_in-miss name (added_class class) [] miss)
+    (cases_Bool (is_class name (added_class class)))
+added-listed name class (row ∷ classes) = ⊎_elim
+    (λ (hit : is_class name row ≡ true). listed_in-hit name row (classes ++ added_class class ∷ []) hit ∙ sym (listed_in-hit name row classes hit))
+    (λ (miss : is_class name row ≡ false). listed_in-miss name row (classes ++ added_class class ∷ []) miss ∙ added-listed name class classes ∙ sym (listed_in-miss name row classes miss))
+    (cases_Bool (is_class name row))
+
 -- A listed class has its copy as its effective profiles.
 effective-copy : (name : List ℕ) (found : Option ClassRow) (copy : List Profile) → option_map_or (λ (class : ClassRow). class.listed) found false ≡ true
     → option_map (λ (class : ClassRow). cond class.listed copy class.profiles) found ≡ Some copy
@@ -146,6 +157,8 @@ edit-listed name (PutOptions options) rows other = refl
 edit-listed name (PutClass class active global log) rows other = at_class-listed name class (with_flags active global log) rows.classes (λ row. refl) (λ row. refl)
 edit-listed name (ListCopy class) rows other = cc
 edit-listed name (Unlist class) rows other = cc
+edit-listed name (AddClass class) rows other = added-listed name class rows.classes
+edit-listed name (DropClass class) rows other = cc
 
 pub edit-copies : (edit : Edit) (state : State) → is_of_copies edit ≡ false → (edited_state edit state).copies ≡ state.copies
 edit-copies (PutUser user) state other = refl
@@ -158,6 +171,8 @@ edit-copies (PutOptions options) state other = refl
 edit-copies (PutClass class active global log) state other = refl
 edit-copies (ListCopy class) state other = cc
 edit-copies (Unlist class) state other = cc
+edit-copies (AddClass class) state other = refl
+edit-copies (DropClass class) state other = cc
 
 pub effective-left : (name : List ℕ) (edits : List Edit) (state : State) → is_listed name state.rows ≡ true → list_all (λ (edit : Edit). not (is_of_copies edit)) edits ≡ true
     → effective name (changed_state edits state) ≡ effective name state

@@ -1,6 +1,6 @@
 -- What edits do to rows.
-use Rattle.std.specs.Prelude.{◌≡◌, ℕ, Bool, true, false, ◌&&◌, if◌then◌else◌, List, [], ◌∷◌}
-use Rattle.std.specs.List.{AllByRecursion}
+use Rattle.std.specs.Prelude.{◌≡◌, ℕ, Bool, true, false, ◌&&◌, not, if◌then◌else◌, List, [], ◌∷◌, ◌++◌}
+use Rattle.std.specs.List.{AllByRecursion, filter}
 use Rattle.generic_names.specs.Spelled.{Spelled}
 use Rattle.generic_names.specs.Before.{before}
 use Rattle.generic_names.specs.Laws.{IsPattern}
@@ -8,9 +8,10 @@ use Rattle.generic_names.specs.declared.kind.NameKind.{NameKind}
 use Rattle.racf_profiles.specs.declared.profiles.Profile.{Profile}
 use Rattle.racf_profiles.specs.declared.class_rows.ClassRow.{ClassRow}
 use Rattle.racf_profiles.specs.declared.class_rows.LogOption.{LogOption}
+use Rattle.racf_profiles.specs.declared.class_rows.LogOption.TheVariants.{ByProfile}
 use Rattle.racf_profiles.specs.declared.rows.Rows.{Rows}
 use Rattle.racf_profiles.specs.declared.edits.Edit.{Edit}
-use Rattle.racf_profiles.specs.declared.edits.Edit.TheVariants.{PutUser, DropUser, PutGroup, DropGroup, PutProfile, DropProfile, PutOptions, PutClass, List as ListCopy, Unlist}
+use Rattle.racf_profiles.specs.declared.edits.Edit.TheVariants.{PutUser, DropUser, PutGroup, DropGroup, PutProfile, DropProfile, PutOptions, PutClass, List as ListCopy, Unlist, AddClass, DropClass}
 use Rattle.racf_profiles.specs.Lookup.{is_user, is_group, is_class, is_profile}
 
 -- A row in place of the first that it is to replace, or else last.
@@ -45,6 +46,14 @@ with_flags active global log class = record class { active = active; global = gl
 abbrev pub with_listed : Bool → ClassRow → ClassRow
 with_listed listed class = record class { listed = listed }
 
+-- A class that is added: not active, not RACLISTed, GLOBAL off, logged by its profiles, of which there are none.
+abbrev pub added_class : List ℕ → ClassRow
+added_class name = record { name = name; active = false; listed = false; global = false; log = ByProfile; profiles = [] }
+
+-- The classes without those of that name.
+abbrev pub without_class : List ℕ → List ClassRow → List ClassRow
+without_class name classes = filter (λ class. not (is_class name class)) classes
+
 -- The rows after an edit.
 abbrev pub edited : Edit → Rows → Rows
 edited (PutUser user) rows = record rows { users = put_row (is_user user.id) user rows.users }
@@ -57,6 +66,8 @@ edited (PutOptions options) rows = record rows { options = options }
 edited (PutClass class active global log) rows = record rows { classes = at_class class (with_flags active global log) rows.classes }
 edited (ListCopy class) rows = record rows { classes = at_class class (with_listed true) rows.classes }
 edited (Unlist class) rows = record rows { classes = at_class class (with_listed false) rows.classes }
+edited (AddClass name) rows = record rows { classes = rows.classes ++ added_class name ∷ [] }
+edited (DropClass name) rows = record rows { classes = without_class name rows.classes }
 
 -- The rows after edits in their order.
 abbrev pub changed : List Edit → Rows → Rows

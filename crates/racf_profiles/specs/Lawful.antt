@@ -12,7 +12,7 @@ use Rattle.racf_profiles.specs.Names.{connections, is_special_user}
 use Rattle.racf_profiles.specs.Counts.{profile_count, entry_count}
 use Rattle.racf_profiles.specs.Tree.{IsTree}
 use Rattle.racf_profiles.specs.LawfulUsers.{AreUsers, IsUser}
-use Rattle.racf_profiles.specs.LawfulProfiles.{AreClasses, IsClass}
+use Rattle.racf_profiles.specs.LawfulProfiles.{AreClasses, AreDynamic, IsClass}
 
 -- The names of categories are defined once each, and aren't too many.
 pub record AreCategories (options : Options) : Type 0 where
@@ -20,7 +20,8 @@ pub record AreCategories (options : Options) : Type 0 where
   pub few : length options.categories ≤ most_categories
 
 -- The groups are a tree, and their names are spelled as groups' names are. Each user is lawful, and one who isn't
--- revoked has SPECIAL. The classes are the fixed ones, each with lawful profiles. The limits over all are kept. An
+-- revoked has SPECIAL. The classes are the fixed ones and then the dynamic ones, which class CDT defines, each with lawful
+-- profiles. The limits over all are kept. An
 -- owner, and an entry of an access list, may name a user or a group that is gone. The spelling of an ID and of a name
 -- is kept by their types.
 pub record AreLawful (rows : Rows) : Type 0 where
@@ -32,11 +33,12 @@ pub record AreLawful (rows : Rows) : Type 0 where
   pub few_connections : connections rows.users ≤ most_connections_in_all
   pub classes : AreClasses rows.classes
   pub each_class : AllByRecursion (IsClass rows) rows.classes
+  pub dynamic : AreDynamic rows
   pub few_profiles : profile_count rows.classes ≤ most_profiles
   pub few_entries : entry_count rows.classes ≤ most_entries_in_all
   pub categories : AreCategories rows.options
 
--- Behind each of the edits, made in their order, the classes are the fixed ones, each with lawful profiles.
+-- Behind each of the edits, made in their order, the classes are a class table, each with lawful profiles.
 abbrev pub LeaveLawfulClasses : List Edit → Rows → Type 0
 LeaveLawfulClasses [] rows = Unit {0}
 LeaveLawfulClasses (edit ∷ edits) rows = AreClasses (edited edit rows).classes × LeaveLawfulClasses edits (edited edit rows)

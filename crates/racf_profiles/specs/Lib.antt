@@ -1,6 +1,7 @@
 pub mod ClassTable
 pub mod Limits
 pub mod Lookup
+pub mod DynamicClasses
 pub mod Names
 pub mod Counts
 pub mod NewDatabase

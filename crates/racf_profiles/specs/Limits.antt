@@ -35,3 +35,7 @@ most_members = 1000
 -- ever defined
 abbrev pub most_categories : ℕ
 most_categories = 256
+
+-- beside the fixed ones
+abbrev pub most_dynamic_classes : ℕ
+most_dynamic_classes = 32

@@ -6,7 +6,7 @@ use Rattle.racf_profiles.specs.declared.profiles.Profile.{Profile}
 use Rattle.racf_profiles.specs.declared.class_rows.ClassRow.{ClassRow}
 use Rattle.racf_profiles.specs.declared.rows.Rows.{Rows}
 use Rattle.racf_profiles.specs.declared.edits.Edit.{Edit}
-use Rattle.racf_profiles.specs.declared.edits.Edit.TheVariants.{List as ListCopy, Unlist}
+use Rattle.racf_profiles.specs.declared.edits.Edit.TheVariants.{List as ListCopy, Unlist, DropClass}
 use Rattle.racf_profiles.specs.Lookup.{class_of}
 use Rattle.racf_profiles.specs.Edits.{edited, put_row, drop_row}
 
@@ -30,16 +30,19 @@ copy_of_class class = record { class = class.name; profiles = class.profiles }
 abbrev pub restart : Rows → State
 restart rows = record { rows = rows; copies = map copy_of_class (filter (λ (class : ClassRow). class.listed) rows.classes) }
 
--- Where the class is there, listing it makes its copy anew, and unlisting it drops the copy; no other edit touches one.
+-- Where the class is there, listing it makes its copy anew, and unlisting it or dropping it drops the copy; no other edit
+-- touches one.
 abbrev pub copies_after : Edit → State → List ListedCopy
 copies_after (ListCopy name) state = option_map_or (λ (class : ClassRow). put_row (is_copy_of name) (copy_of_class class) state.copies) (class_of name state.rows) state.copies
 copies_after (Unlist name) state = option_map_or (λ (class : ClassRow). drop_row (is_copy_of name) state.copies) (class_of name state.rows) state.copies
+copies_after (DropClass name) state = option_map_or (λ (class : ClassRow). drop_row (is_copy_of name) state.copies) (class_of name state.rows) state.copies
 copies_after _ state = state.copies
 
--- Whether an edit lists or unlists a class.
+-- Whether an edit lists or unlists a class, or drops one.
 abbrev pub is_of_copies : Edit → Bool
 is_of_copies (ListCopy name) = true
 is_of_copies (Unlist name) = true
+is_of_copies (DropClass name) = true
 is_of_copies edit = false
 
 -- The state after an edit, and after edits in their order.

@@ -27,6 +27,10 @@ pub enum Edit {
     List(Id),
     /// Drops a class's listed copy.
     Unlist(Id),
+    /// Adds a class last: inactive, without profiles, logged by its profiles.
+    AddClass(Id),
+    /// Drops a class, with its profiles and its listed copy.
+    DropClass(Id),
 }
 
 /// Edits in their order.

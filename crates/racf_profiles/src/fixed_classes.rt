@@ -1,8 +1,8 @@
-//! The fixed classes and what each of them allows.
+//! The fixed classes and what each of them allows. What holds of dynamic classes too stands in `dynamic_classes`.
 ghost use Rattle.std.specs.Prelude.{◌≡◌, Ok, option_copied};
 ghost use Rattle.access_levels.specs.Spelling.{id_of};
 ghost use Rattle.racf_profiles.specs.LawfulProfiles.{kind_in};
-ghost use Rattle.racf_profiles.specs.ClassTable.{class_name, fixed_class, facts_of_class, class_table, facts_of, allows_operations};
+ghost use Rattle.racf_profiles.specs.ClassTable.{class_name, fixed_class, facts_of_class, class_table, facts_of};
 
 use access_levels::Id;
 use generic_names::NameKind;
@@ -24,6 +24,7 @@ pub enum FixedClass {
     Secdata,
     Seclabel,
     Global,
+    Cdt,
 }
 
 /// Which names the profiles of a class have.
@@ -44,8 +45,9 @@ pub enum NameForm {
 /// What a class allows.
 #[derive(Clone, Copy, Debug, PartialEq, Eq)]
 pub struct ClassFacts {
-    pub class: FixedClass,
     pub names: NameForm,
+    /// The most bytes that a name may have, where the class sets a length of its own.
+    pub longest: Option<u8>,
     /// The attribute OPERATIONS gives access.
     pub operations: bool,
     /// Profiles may be generic.
@@ -56,7 +58,7 @@ pub struct ClassFacts {
 
 impl FixedClass {
     /// All fixed classes, in the order of the table.
-    pub const ALL: [FixedClass; 14] = [
+    pub const ALL: [FixedClass; 15] = [
         FixedClass::Dataset,
         FixedClass::Facility,
         FixedClass::Terminal,
@@ -71,6 +73,7 @@ impl FixedClass {
         FixedClass::Secdata,
         FixedClass::Seclabel,
         FixedClass::Global,
+        FixedClass::Cdt,
     ];
 
     /// The name of the class.
@@ -93,6 +96,7 @@ impl FixedClass {
             FixedClass::Secdata => b"SECDATA".as_slice(),
             FixedClass::Seclabel => b"SECLABEL".as_slice(),
             FixedClass::Global => b"GLOBAL".as_slice(),
+            FixedClass::Cdt => b"CDT".as_slice(),
         }
     }
 
@@ -122,101 +126,108 @@ impl FixedClass {
 }
 
 /// The table of the fixed classes.
-pub const CLASS_TABLE: [ClassFacts; 14] = [
+pub const CLASS_TABLE: [ClassFacts; 15] = [
     ClassFacts {
-        class: FixedClass::Dataset,
         names: NameForm::DataSet,
+        longest: None,
         operations: true,
         generic: true,
         raclist: false,
     },
     ClassFacts {
-        class: FixedClass::Facility,
         names: NameForm::General,
+        longest: None,
         operations: false,
         generic: true,
         raclist: true,
     },
     ClassFacts {
-        class: FixedClass::Terminal,
         names: NameForm::General,
+        longest: None,
         operations: false,
         generic: true,
         raclist: true,
     },
     ClassFacts {
-        class: FixedClass::Console,
         names: NameForm::General,
+        longest: None,
         operations: false,
         generic: true,
         raclist: true,
     },
     ClassFacts {
-        class: FixedClass::Jesinput,
         names: NameForm::General,
+        longest: None,
         operations: false,
         generic: true,
         raclist: true,
     },
     ClassFacts {
-        class: FixedClass::Appcport,
         names: NameForm::General,
+        longest: None,
         operations: false,
         generic: true,
         raclist: true,
     },
     ClassFacts {
-        class: FixedClass::Appl,
         names: NameForm::General,
+        longest: None,
         operations: false,
         generic: true,
         raclist: true,
     },
     ClassFacts {
-        class: FixedClass::Opercmds,
         names: NameForm::General,
+        longest: None,
         operations: false,
         generic: true,
         raclist: true,
     },
     ClassFacts {
-        class: FixedClass::Surrogat,
         names: NameForm::General,
+        longest: None,
         operations: false,
         generic: true,
         raclist: true,
     },
     ClassFacts {
-        class: FixedClass::Tapevol,
         names: NameForm::General,
+        longest: None,
         operations: true,
         generic: true,
         raclist: true,
     },
     ClassFacts {
-        class: FixedClass::Dasdvol,
         names: NameForm::General,
+        longest: None,
         operations: true,
         generic: true,
         raclist: true,
     },
     ClassFacts {
-        class: FixedClass::Secdata,
         names: NameForm::LevelOrCategory,
+        longest: None,
         operations: false,
         generic: false,
         raclist: false,
     },
     ClassFacts {
-        class: FixedClass::Seclabel,
         names: NameForm::Identifier,
+        longest: None,
         operations: false,
         generic: false,
         raclist: true,
     },
     ClassFacts {
-        class: FixedClass::Global,
         names: NameForm::Class,
+        longest: None,
+        operations: false,
+        generic: false,
+        raclist: false,
+    },
+    ClassFacts {
+        names: NameForm::Identifier,
+        longest: None,
         operations: false,
         generic: false,
         raclist: false,
@@ -255,15 +266,5 @@ pub fn kind_of_class(name: &[u8]) -> NameKind
         NameKind::DataSet
     } else {
         NameKind::General
-    }
-}
-
-/// Whether the class lets OPERATIONS give access.
-pub fn allows_operations(class: Id) -> bool
-    ensures { result ≡ allows_operations class }
-{
-    match class_facts(class) {
-        Some(facts) => facts.operations,
-        None => false,
     }
 }

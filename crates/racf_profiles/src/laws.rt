@@ -10,7 +10,6 @@ ghost use Rattle.racf_profiles.specs.Lookup.{user_of, group_of, class_of, profil
 ghost use Rattle.racf_profiles.specs.Edits.{edited, changed, put_profile, is_in_order, AreNamed};
 ghost use Rattle.racf_profiles.specs.State.{State, HaveCopies, restart, effective, edited_state, changed_state, is_listed, is_none_listed, is_of_copies};
 ghost use Rattle.racf_profiles.specs.declared.fixed_classes.FixedClass.{FixedClass};
-ghost use Rattle.racf_profiles.specs.declared.fixed_classes.ClassFacts.{ClassFacts};
 ghost use Rattle.racf_profiles.specs.declared.users.User.{User};
 ghost use Rattle.racf_profiles.specs.declared.groups.Group.{Group};
 ghost use Rattle.racf_profiles.specs.declared.profiles.Profile.{Profile};
@@ -23,7 +22,7 @@ ghost use Rattle.racf_profiles.specs.declared.edits.Edit.TheVariants as edit;
 /// Each class of the table is found by its name, and has what holds of each class.
 pub fn class_table_rules()
     ensures each { (class : FixedClass) → facts_of (class_name class) ≡ Some (facts_of_class class) }
-    ensures consistent { (name : List ℕ) (facts : ClassFacts) → facts_of name ≡ Some facts → IsTrue (is_consistent facts) }
+    ensures consistent { (class : FixedClass) → IsTrue (is_consistent class) }
 {}
 
 /// An edit that names an absent class, or drops an absent row, changes nothing.
@@ -35,6 +34,7 @@ pub fn absent_changes_nothing()
     ensures put_class { (class : List ℕ) (active global : Bool) (log : LogOption) (rows : Rows) → class_of class rows ≡ None → edited (edit.PutClass class active global log) rows ≡ rows }
     ensures list { (class : List ℕ) (state : State) → class_of class state.rows ≡ None → edited_state (edit.List class) state ≡ state }
     ensures unlist { (class : List ℕ) (state : State) → class_of class state.rows ≡ None → edited_state (edit.Unlist class) state ≡ state }
+    ensures drop_class { (class : List ℕ) (state : State) → class_of class state.rows ≡ None → edited_state (edit.DropClass class) state ≡ state }
 {}
 
 /// What is put is found, and every other row stays as it was.
@@ -63,7 +63,7 @@ pub fn restart_is_live()
     ensures { (name : List ℕ) (rows : Rows) → effective name (restart rows) ≡ option_map (λ (class : ClassRow). class.profiles) (class_of name rows) }
 {}
 
-/// Edits other than listing and unlisting leave the effective profiles of a listed class as they were, also where
+/// Edits other than listing, unlisting and dropping a class leave the effective profiles of a listed class as they were, also where
 /// they change its live profiles.
 pub fn other_edits_leave_listed_copies()
     ensures { (name : List ℕ) (edits : List Edit) (state : State) → IsTrue (is_listed name state.rows) → IsTrue (list_all (λ (edit : Edit). not (is_of_copies edit)) edits) → effective name (changed_state edits state) ≡ effective name state }

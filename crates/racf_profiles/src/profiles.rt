@@ -34,7 +34,18 @@ pub struct AuditRule {
     pub failures: Option<Level>,
 }
 
-/// A member of a profile of class GLOBAL or SECDATA.
+/// What RDEFINE in class CDT says of a class.
+#[derive(Clone, Copy, Debug, PartialEq, Eq)]
+pub struct ClassTraits {
+    /// The attribute OPERATIONS gives access.
+    pub operations: bool,
+    /// Names of its profiles are spelled as user IDs are, and none is generic.
+    pub ids: bool,
+    /// The most bytes that a profile's name has, from 1 to 246.
+    pub longest: u8,
+}
+
+/// A member of a profile of class GLOBAL, SECDATA or CDT.
 #[derive(Clone, Copy)]
 pub enum Member {
     /// Of a GLOBAL profile: resources, and the access that everyone has to them.
@@ -43,6 +54,8 @@ pub enum Member {
     SecurityLevel(Id, u8),
     /// Of SECDATA's CATEGORY: a name of a category.
     Category(Id),
+    /// Of CDT: what the class of the profile's name has. It is the profile's one member.
+    Traits(ClassTraits),
 }
 
 /// A standard access list.

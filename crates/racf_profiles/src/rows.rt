@@ -21,7 +21,7 @@ pub struct Rows {
     pub users: Users,
     /// In order of definition.
     pub groups: Groups,
-    /// The fixed classes in their order.
+    /// The fixed classes in their order, and behind them the dynamic ones in order of definition.
     pub classes: ClassRows,
     pub options: Options,
 }

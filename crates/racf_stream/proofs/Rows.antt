@@ -12,12 +12,12 @@ use Rattle.command_parser.specs.Canonical.{canonical}
 use Rattle.command_parser.specs.CommandOf.{command_of}
 use Rattle.command_words.specs.Tokens.{tokens}
 use Rattle.command_rules.specs.Conflicts.{is_root, has_subgroup, has_connected, has_profile, meets, cycle, owner_not_superior, default_group, last_special, users_full, groups_full, connections_full, user_full, add_user_conflicts, alt_user_conflicts, del_user_conflicts, add_group_conflicts, alt_group_conflicts, del_group_conflicts, connect_conflicts, remove_conflicts}
-use Rattle.command_rules.specs.ProfileConflicts.{no_first_qualifier, no_permitted, no_such_class, no_resource_class, no_global_class, no_profile, profile_taken, not_generic, class_profiles_full, profiles_full, standard_full, conditional_full, entries_full, members_full, no_resource_profile, add_sd_requirements, add_sd_limits, r_define_requirements, r_define_limits, categories_full, alt_sd_conflicts, del_sd_conflicts, r_alter_conflicts, r_delete_conflicts, permit_conflicts}
+use Rattle.command_rules.specs.ProfileConflicts.{no_first_qualifier, no_permitted, no_such_class, no_resource_class, no_global_class, no_profile, profile_taken, not_generic, name_not_allowed, class_in_use, class_profiles_full, profiles_full, standard_full, conditional_full, entries_full, members_full, no_resource_profile, add_sd_requirements, add_sd_limits, r_define_requirements, r_define_limits, categories_full, alt_sd_conflicts, del_sd_conflicts, r_alter_conflicts, r_delete_conflicts, permit_conflicts}
 use Rattle.command_rules.specs.OptionConflicts.{absent_class, class_without_generic, unlisted_class, never_listed_class, always_active_class, set_ropts_conflicts}
 use Rattle.command_rules.specs.Required.{no_user, no_group, no_owner, no_named_group, no_class, name_taken, not_connected, default_not_connected, unknown_level, unknown_category, never_category, unknown_label}
 use Rattle.command_authority.specs.Requirements.{add_user_requirements, alt_user_requirements, del_user_requirements, add_group_requirements, alt_group_requirements, del_group_requirements, connect_requirements, remove_requirements, add_sd_requirements as add_sd_needs, r_define_requirements as r_define_needs, alt_sd_requirements, del_sd_requirements, r_alter_requirements, r_delete_requirements, permit_requirements, set_ropts_requirements}
 use Rattle.command_authority.specs.Authority.{is_met, need}
-use Rattle.database_image.specs.Description.{image, options, group, user, connection, class}
+use Rattle.database_image.specs.Description.{image_by, options, group, user, connection, class}
 use Rattle.database_image.specs.Image.{image_of}
 use Rattle.desk_rules.specs.Outcome.{outcome_in}
 use Rattle.desk_rules.specs.Position.{first_position}
@@ -64,7 +64,7 @@ first : Prints
     ++ codes "AUDIT FAILURE IBMUSER FACILITY BPX.X UPDATE\n2 4 NOPROFILE\n"
     ++ codes "2 REFUSED EXISTS BPX.X\n2 REFUSED NOACEE B\n3 ACCEPTED\n")
     Refusals
-unfolding digits canon form_in parsed front behind command_of tokens is_root has_subgroup has_connected has_profile meets cycle owner_not_superior default_group last_special users_full groups_full connections_full user_full add_user_conflicts alt_user_conflicts del_user_conflicts add_group_conflicts alt_group_conflicts del_group_conflicts connect_conflicts remove_conflicts no_first_qualifier no_permitted no_such_class no_resource_class no_global_class no_profile profile_taken not_generic class_profiles_full profiles_full standard_full conditional_full entries_full members_full no_resource_profile add_sd_requirements add_sd_limits r_define_requirements r_define_limits categories_full alt_sd_conflicts del_sd_conflicts r_alter_conflicts r_delete_conflicts permit_conflicts absent_class class_without_generic unlisted_class never_listed_class always_active_class set_ropts_conflicts no_user no_group no_owner no_named_group no_class name_taken not_connected default_not_connected unknown_level unknown_category never_category unknown_label add_user_requirements alt_user_requirements del_user_requirements add_group_requirements alt_group_requirements del_group_requirements connect_requirements remove_requirements add_sd_needs r_define_needs alt_sd_requirements del_sd_requirements r_alter_requirements r_delete_requirements permit_requirements set_ropts_requirements is_met need outcome_in issuer_by issuer_of_line request_of is_request reply_line spelled canonical statements_of new_stream request command step text as_number next deleted number_after asked_by verified_by requested read words_at answer_line audited logged audit_line granted acee_of decided verified classified image_of image options group user connection class
+unfolding digits canon form_in parsed front behind command_of tokens is_root has_subgroup has_connected has_profile meets cycle owner_not_superior default_group last_special users_full groups_full connections_full user_full add_user_conflicts alt_user_conflicts del_user_conflicts add_group_conflicts alt_group_conflicts del_group_conflicts connect_conflicts remove_conflicts no_first_qualifier no_permitted no_such_class no_resource_class no_global_class no_profile profile_taken not_generic name_not_allowed class_in_use class_profiles_full profiles_full standard_full conditional_full entries_full members_full no_resource_profile add_sd_requirements add_sd_limits r_define_requirements r_define_limits categories_full alt_sd_conflicts del_sd_conflicts r_alter_conflicts r_delete_conflicts permit_conflicts absent_class class_without_generic unlisted_class never_listed_class always_active_class set_ropts_conflicts no_user no_group no_owner no_named_group no_class name_taken not_connected default_not_connected unknown_level unknown_category never_category unknown_label add_user_requirements alt_user_requirements del_user_requirements add_group_requirements alt_group_requirements del_group_requirements connect_requirements remove_requirements add_sd_needs r_define_needs alt_sd_requirements del_sd_requirements r_alter_requirements r_delete_requirements permit_requirements set_ropts_requirements is_met need outcome_in issuer_by issuer_of_line request_of is_request reply_line spelled canonical statements_of new_stream request command step text as_number next deleted number_after asked_by verified_by requested read words_at answer_line audited logged audit_line granted acee_of decided verified classified image_of image_by options group user connection class
 first = record { prints = refl; ends = refl }
 
 -- Profiles that cover one name, taken away from the most specific one on.
@@ -76,7 +76,7 @@ profiles : Prints
     ++ codes "AUDIT FAILURE IBMUSER FACILITY A.B READ\n5 ACCEPTED\n"
     ++ codes "5 0 UACC A.B* UPDATE\n6 ACCEPTED\n6 0 UACC A.** READ\n6 4 NOPROFILE\n")
     Done
-unfolding digits canon form_in parsed front behind command_of tokens is_root has_subgroup has_connected has_profile meets cycle owner_not_superior default_group last_special users_full groups_full connections_full user_full add_user_conflicts alt_user_conflicts del_user_conflicts add_group_conflicts alt_group_conflicts del_group_conflicts connect_conflicts remove_conflicts no_first_qualifier no_permitted no_such_class no_resource_class no_global_class no_profile profile_taken not_generic class_profiles_full profiles_full standard_full conditional_full entries_full members_full no_resource_profile add_sd_requirements add_sd_limits r_define_requirements r_define_limits categories_full alt_sd_conflicts del_sd_conflicts r_alter_conflicts r_delete_conflicts permit_conflicts absent_class class_without_generic unlisted_class never_listed_class always_active_class set_ropts_conflicts no_user no_group no_owner no_named_group no_class name_taken not_connected default_not_connected unknown_level unknown_category never_category unknown_label add_user_requirements alt_user_requirements del_user_requirements add_group_requirements alt_group_requirements del_group_requirements connect_requirements remove_requirements add_sd_needs r_define_needs alt_sd_requirements del_sd_requirements r_alter_requirements r_delete_requirements permit_requirements set_ropts_requirements is_met need outcome_in issuer_by issuer_of_line request_of is_request reply_line spelled canonical statements_of new_stream request command step text as_number next deleted number_after asked_by verified_by requested read words_at answer_line audited logged audit_line granted acee_of decided verified classified image_of image options group user connection class
+unfolding digits canon form_in parsed front behind command_of tokens is_root has_subgroup has_connected has_profile meets cycle owner_not_superior default_group last_special users_full groups_full connections_full user_full add_user_conflicts alt_user_conflicts del_user_conflicts add_group_conflicts alt_group_conflicts del_group_conflicts connect_conflicts remove_conflicts no_first_qualifier no_permitted no_such_class no_resource_class no_global_class no_profile profile_taken not_generic name_not_allowed class_in_use class_profiles_full profiles_full standard_full conditional_full entries_full members_full no_resource_profile add_sd_requirements add_sd_limits r_define_requirements r_define_limits categories_full alt_sd_conflicts del_sd_conflicts r_alter_conflicts r_delete_conflicts permit_conflicts absent_class class_without_generic unlisted_class never_listed_class always_active_class set_ropts_conflicts no_user no_group no_owner no_named_group no_class name_taken not_connected default_not_connected unknown_level unknown_category never_category unknown_label add_user_requirements alt_user_requirements del_user_requirements add_group_requirements alt_group_requirements del_group_requirements connect_requirements remove_requirements add_sd_needs r_define_needs alt_sd_requirements del_sd_requirements r_alter_requirements r_delete_requirements permit_requirements set_ropts_requirements is_met need outcome_in issuer_by issuer_of_line request_of is_request reply_line spelled canonical statements_of new_stream request command step text as_number next deleted number_after asked_by verified_by requested read words_at answer_line audited logged audit_line granted acee_of decided verified classified image_of image_by options group user connection class
 profiles = record { prints = refl; ends = refl }
 
 -- A command in two lines, the first faults of three texts, a name that the issuer's ID goes before, and a label that no
@@ -88,7 +88,7 @@ texts : Prints
     ++ codes "1 REFUSED SYNTAX UNKNOWNCOMMAND\n2 ACCEPTED\n3 ACCEPTED\n3 REFUSED UNKNOWNNAME X\n"
     ++ codes "3 REFUSED NOPROFILE DATASET IBMUSER.TEST.DATA\n")
     Refusals
-unfolding digits canon form_in parsed front behind command_of tokens is_root has_subgroup has_connected has_profile meets cycle owner_not_superior default_group last_special users_full groups_full connections_full user_full add_user_conflicts alt_user_conflicts del_user_conflicts add_group_conflicts alt_group_conflicts del_group_conflicts connect_conflicts remove_conflicts no_first_qualifier no_permitted no_such_class no_resource_class no_global_class no_profile profile_taken not_generic class_profiles_full profiles_full standard_full conditional_full entries_full members_full no_resource_profile add_sd_requirements add_sd_limits r_define_requirements r_define_limits categories_full alt_sd_conflicts del_sd_conflicts r_alter_conflicts r_delete_conflicts permit_conflicts no_user no_group no_owner no_named_group no_class name_taken not_connected default_not_connected unknown_level unknown_category never_category unknown_label add_user_requirements alt_user_requirements del_user_requirements add_group_requirements alt_group_requirements del_group_requirements connect_requirements remove_requirements add_sd_needs r_define_needs alt_sd_requirements del_sd_requirements r_alter_requirements r_delete_requirements permit_requirements is_met need outcome_in issuer_by issuer_of_line request_of is_request reply_line spelled canonical statements_of new_stream request command step text as_number next deleted number_after asked_by verified_by requested read words_at answer_line audited logged audit_line granted acee_of decided verified classified image_of image options group user connection class
+unfolding digits canon form_in parsed front behind command_of tokens is_root has_subgroup has_connected has_profile meets cycle owner_not_superior default_group last_special users_full groups_full connections_full user_full add_user_conflicts alt_user_conflicts del_user_conflicts add_group_conflicts alt_group_conflicts del_group_conflicts connect_conflicts remove_conflicts no_first_qualifier no_permitted no_such_class no_resource_class no_global_class no_profile profile_taken not_generic name_not_allowed class_in_use class_profiles_full profiles_full standard_full conditional_full entries_full members_full no_resource_profile add_sd_requirements add_sd_limits r_define_requirements r_define_limits categories_full alt_sd_conflicts del_sd_conflicts r_alter_conflicts r_delete_conflicts permit_conflicts no_user no_group no_owner no_named_group no_class name_taken not_connected default_not_connected unknown_level unknown_category never_category unknown_label add_user_requirements alt_user_requirements del_user_requirements add_group_requirements alt_group_requirements del_group_requirements connect_requirements remove_requirements add_sd_needs r_define_needs alt_sd_requirements del_sd_requirements r_alter_requirements r_delete_requirements permit_requirements is_met need outcome_in issuer_by issuer_of_line request_of is_request reply_line spelled canonical statements_of new_stream request command step text as_number next deleted number_after asked_by verified_by requested read words_at answer_line audited logged audit_line granted acee_of decided verified classified image_of image_by options group user connection class
 texts = record { prints = refl; ends = refl }
 
 -- Groups that are made, moved and taken away.
@@ -98,7 +98,7 @@ groups : Prints
     (codes "1 ACCEPTED\n2 ACCEPTED\n2 REFUSED CYCLE A\n2 REFUSED INUSE SUBGROUP B\n3 ACCEPTED\n"
     ++ codes "3 REFUSED INUSE CONNECTED JOE\n3 REFUSED DEFAULTGROUP B\n4 ACCEPTED\n5 ACCEPTED\n5 REFUSED ROOT\n")
     Refusals
-unfolding digits canon form_in parsed front behind command_of tokens is_root has_subgroup has_connected has_profile meets cycle owner_not_superior default_group last_special users_full groups_full connections_full user_full add_user_conflicts alt_user_conflicts del_user_conflicts add_group_conflicts alt_group_conflicts del_group_conflicts connect_conflicts remove_conflicts no_first_qualifier no_permitted no_such_class no_resource_class no_global_class no_profile profile_taken not_generic class_profiles_full profiles_full standard_full conditional_full entries_full members_full no_resource_profile add_sd_requirements add_sd_limits r_define_requirements r_define_limits categories_full alt_sd_conflicts del_sd_conflicts r_alter_conflicts r_delete_conflicts permit_conflicts no_user no_group no_owner no_named_group no_class name_taken not_connected default_not_connected unknown_level unknown_category never_category unknown_label add_user_requirements alt_user_requirements del_user_requirements add_group_requirements alt_group_requirements del_group_requirements connect_requirements remove_requirements add_sd_needs r_define_needs alt_sd_requirements del_sd_requirements r_alter_requirements r_delete_requirements permit_requirements is_met need outcome_in issuer_by issuer_of_line request_of is_request reply_line spelled canonical statements_of new_stream request command step text as_number next deleted number_after asked_by verified_by requested read words_at answer_line audited logged audit_line granted acee_of decided verified classified image_of image options group user connection class
+unfolding digits canon form_in parsed front behind command_of tokens is_root has_subgroup has_connected has_profile meets cycle owner_not_superior default_group last_special users_full groups_full connections_full user_full add_user_conflicts alt_user_conflicts del_user_conflicts add_group_conflicts alt_group_conflicts del_group_conflicts connect_conflicts remove_conflicts no_first_qualifier no_permitted no_such_class no_resource_class no_global_class no_profile profile_taken not_generic name_not_allowed class_in_use class_profiles_full profiles_full standard_full conditional_full entries_full members_full no_resource_profile add_sd_requirements add_sd_limits r_define_requirements r_define_limits categories_full alt_sd_conflicts del_sd_conflicts r_alter_conflicts r_delete_conflicts permit_conflicts no_user no_group no_owner no_named_group no_class name_taken not_connected default_not_connected unknown_level unknown_category never_category unknown_label add_user_requirements alt_user_requirements del_user_requirements add_group_requirements alt_group_requirements del_group_requirements connect_requirements remove_requirements add_sd_needs r_define_needs alt_sd_requirements del_sd_requirements r_alter_requirements r_delete_requirements permit_requirements is_met need outcome_in issuer_by issuer_of_line request_of is_request reply_line spelled canonical statements_of new_stream request command step text as_number next deleted number_after asked_by verified_by requested read words_at answer_line audited logged audit_line granted acee_of decided verified classified image_of image_by options group user connection class
 groups = record { prints = refl; ends = refl }
 
 -- A user entry bars OPERATIONS, and a conditional entry counts at its port alone.
@@ -111,7 +111,7 @@ entries : Prints
     ++ codes "5 ACCEPTED\n5 0 OPERATIONS SYS1.A NONE\n6 ACCEPTED\n6 0 VERIFIED\n"
     ++ codes "6 0 CONDITIONAL WHEN(TERMINAL(T1)) SYS1.A UPDATE\n")
     Done
-unfolding digits canon form_in parsed front behind command_of tokens is_root has_subgroup has_connected has_profile meets cycle owner_not_superior default_group last_special users_full groups_full connections_full user_full add_user_conflicts alt_user_conflicts del_user_conflicts add_group_conflicts alt_group_conflicts del_group_conflicts connect_conflicts remove_conflicts no_first_qualifier no_permitted no_such_class no_resource_class no_global_class no_profile profile_taken not_generic class_profiles_full profiles_full standard_full conditional_full entries_full members_full no_resource_profile add_sd_requirements add_sd_limits r_define_requirements r_define_limits categories_full alt_sd_conflicts del_sd_conflicts r_alter_conflicts r_delete_conflicts permit_conflicts no_user no_group no_owner no_named_group no_class name_taken not_connected default_not_connected unknown_level unknown_category never_category unknown_label add_user_requirements alt_user_requirements del_user_requirements add_group_requirements alt_group_requirements del_group_requirements connect_requirements remove_requirements add_sd_needs r_define_needs alt_sd_requirements del_sd_requirements r_alter_requirements r_delete_requirements permit_requirements is_met need outcome_in issuer_by issuer_of_line request_of is_request reply_line spelled canonical statements_of new_stream request command step text as_number next deleted number_after asked_by verified_by requested read words_at answer_line audited logged audit_line granted acee_of decided verified classified image_of image options group user connection class
+unfolding digits canon form_in parsed front behind command_of tokens is_root has_subgroup has_connected has_profile meets cycle owner_not_superior default_group last_special users_full groups_full connections_full user_full add_user_conflicts alt_user_conflicts del_user_conflicts add_group_conflicts alt_group_conflicts del_group_conflicts connect_conflicts remove_conflicts no_first_qualifier no_permitted no_such_class no_resource_class no_global_class no_profile profile_taken not_generic name_not_allowed class_in_use class_profiles_full profiles_full standard_full conditional_full entries_full members_full no_resource_profile add_sd_requirements add_sd_limits r_define_requirements r_define_limits categories_full alt_sd_conflicts del_sd_conflicts r_alter_conflicts r_delete_conflicts permit_conflicts no_user no_group no_owner no_named_group no_class name_taken not_connected default_not_connected unknown_level unknown_category never_category unknown_label add_user_requirements alt_user_requirements del_user_requirements add_group_requirements alt_group_requirements del_group_requirements connect_requirements remove_requirements add_sd_needs r_define_needs alt_sd_requirements del_sd_requirements r_alter_requirements r_delete_requirements permit_requirements is_met need outcome_in issuer_by issuer_of_line request_of is_request reply_line spelled canonical statements_of new_stream request command step text as_number next deleted number_after asked_by verified_by requested read words_at answer_line audited logged audit_line granted acee_of decided verified classified image_of image_by options group user connection class
 entries = record { prints = refl; ends = refl }
 
 -- FASTAUTH and AUTH in a RACLISTed class go by its copy, which doesn't follow PERMIT.
@@ -122,7 +122,7 @@ listed : Prints
     (codes "1 ACCEPTED\n2 ACCEPTED\n3 ACCEPTED\n4 ACCEPTED\n4 0 VERIFIED\n4 8 INSUFFICIENT F.G NONE\n5 ACCEPTED\n"
     ++ codes "5 8 INSUFFICIENT F.G NONE\n5 8 INSUFFICIENT F.G NONE\nAUDIT FAILURE JOE FACILITY F.G READ\n6 ACCEPTED\n6 0 USER F.G READ\n6 4 CLASSOFF\n6 4 NOTLISTED\n")
     Done
-unfolding digits canon form_in parsed front behind command_of tokens is_root has_subgroup has_connected has_profile meets cycle owner_not_superior default_group last_special users_full groups_full connections_full user_full add_user_conflicts alt_user_conflicts del_user_conflicts add_group_conflicts alt_group_conflicts del_group_conflicts connect_conflicts remove_conflicts no_first_qualifier no_permitted no_such_class no_resource_class no_global_class no_profile profile_taken not_generic class_profiles_full profiles_full standard_full conditional_full entries_full members_full no_resource_profile add_sd_requirements add_sd_limits r_define_requirements r_define_limits categories_full alt_sd_conflicts del_sd_conflicts r_alter_conflicts r_delete_conflicts permit_conflicts absent_class class_without_generic unlisted_class never_listed_class always_active_class set_ropts_conflicts no_user no_group no_owner no_named_group no_class name_taken not_connected default_not_connected unknown_level unknown_category never_category unknown_label add_user_requirements alt_user_requirements del_user_requirements add_group_requirements alt_group_requirements del_group_requirements connect_requirements remove_requirements add_sd_needs r_define_needs alt_sd_requirements del_sd_requirements r_alter_requirements r_delete_requirements permit_requirements set_ropts_requirements is_met need outcome_in issuer_by issuer_of_line request_of is_request reply_line spelled canonical statements_of new_stream request command step text as_number next deleted number_after asked_by verified_by requested read words_at answer_line audited logged audit_line granted acee_of decided verified fast_decided classified image_of image options group user connection class
+unfolding digits canon form_in parsed front behind command_of tokens is_root has_subgroup has_connected has_profile meets cycle owner_not_superior default_group last_special users_full groups_full connections_full user_full add_user_conflicts alt_user_conflicts del_user_conflicts add_group_conflicts alt_group_conflicts del_group_conflicts connect_conflicts remove_conflicts no_first_qualifier no_permitted no_such_class no_resource_class no_global_class no_profile profile_taken not_generic name_not_allowed class_in_use class_profiles_full profiles_full standard_full conditional_full entries_full members_full no_resource_profile add_sd_requirements add_sd_limits r_define_requirements r_define_limits categories_full alt_sd_conflicts del_sd_conflicts r_alter_conflicts r_delete_conflicts permit_conflicts absent_class class_without_generic unlisted_class never_listed_class always_active_class set_ropts_conflicts no_user no_group no_owner no_named_group no_class name_taken not_connected default_not_connected unknown_level unknown_category never_category unknown_label add_user_requirements alt_user_requirements del_user_requirements add_group_requirements alt_group_requirements del_group_requirements connect_requirements remove_requirements add_sd_needs r_define_needs alt_sd_requirements del_sd_requirements r_alter_requirements r_delete_requirements permit_requirements set_ropts_requirements is_met need outcome_in issuer_by issuer_of_line request_of is_request reply_line spelled canonical statements_of new_stream request command step text as_number next deleted number_after asked_by verified_by requested read words_at answer_line audited logged audit_line granted acee_of decided verified fast_decided classified image_of image_by options group user connection class
 listed = record { prints = refl; ends = refl }
 
 -- Refusals of a request's line, and the number that is waited for.
@@ -132,7 +132,7 @@ requests : Prints
     (codes "0 REFUSED NOACEE A\n0 4 NOTDEFINED\n0 0 VERIFIED\n0 REFUSED ACEEEXISTS A\n"
     ++ codes "0 REFUSED BADNAME EMPTYQUALIFIER 2\n0 REFUSED BADLINE 23\n0 REFUSED BADNAME EMPTYQUALIFIER 2\n0 0 DELETED\nNEVER 0\n")
     Refusals
-unfolding digits canon form_in parsed front behind command_of tokens is_root has_subgroup has_connected has_profile meets cycle owner_not_superior default_group last_special users_full groups_full connections_full user_full add_user_conflicts alt_user_conflicts del_user_conflicts add_group_conflicts alt_group_conflicts del_group_conflicts connect_conflicts remove_conflicts no_first_qualifier no_permitted no_such_class no_resource_class no_global_class no_profile profile_taken not_generic class_profiles_full profiles_full standard_full conditional_full entries_full members_full no_resource_profile add_sd_requirements add_sd_limits r_define_requirements r_define_limits categories_full alt_sd_conflicts del_sd_conflicts r_alter_conflicts r_delete_conflicts permit_conflicts no_user no_group no_owner no_named_group no_class name_taken not_connected default_not_connected unknown_level unknown_category never_category unknown_label add_user_requirements alt_user_requirements del_user_requirements add_group_requirements alt_group_requirements del_group_requirements connect_requirements remove_requirements add_sd_needs r_define_needs alt_sd_requirements del_sd_requirements r_alter_requirements r_delete_requirements permit_requirements is_met need outcome_in issuer_by issuer_of_line request_of is_request reply_line spelled canonical statements_of new_stream request command step text as_number next deleted number_after asked_by verified_by requested read words_at answer_line audited logged audit_line granted acee_of decided verified classified
+unfolding digits canon form_in parsed front behind command_of tokens is_root has_subgroup has_connected has_profile meets cycle owner_not_superior default_group last_special users_full groups_full connections_full user_full add_user_conflicts alt_user_conflicts del_user_conflicts add_group_conflicts alt_group_conflicts del_group_conflicts connect_conflicts remove_conflicts no_first_qualifier no_permitted no_such_class no_resource_class no_global_class no_profile profile_taken not_generic name_not_allowed class_in_use class_profiles_full profiles_full standard_full conditional_full entries_full members_full no_resource_profile add_sd_requirements add_sd_limits r_define_requirements r_define_limits categories_full alt_sd_conflicts del_sd_conflicts r_alter_conflicts r_delete_conflicts permit_conflicts no_user no_group no_owner no_named_group no_class name_taken not_connected default_not_connected unknown_level unknown_category never_category unknown_label add_user_requirements alt_user_requirements del_user_requirements add_group_requirements alt_group_requirements del_group_requirements connect_requirements remove_requirements add_sd_needs r_define_needs alt_sd_requirements del_sd_requirements r_alter_requirements r_delete_requirements permit_requirements is_met need outcome_in issuer_by issuer_of_line request_of is_request reply_line spelled canonical statements_of new_stream request command step text as_number next deleted number_after asked_by verified_by requested read words_at answer_line audited logged audit_line granted acee_of decided verified classified
 requests = record { prints = refl; ends = refl }
 
 -- What is skipped, and what isn't: a comment and a line of blanks print nothing.
@@ -140,7 +140,7 @@ skipped : Prints
     (codes "/* \n \t\n\n/*\r\n /* x\nVERIFY A IBMUSER\n")
     (codes "0 REFUSED SYNTAX UNKNOWNCOMMAND\n0 0 VERIFIED\n")
     Refusals
-unfolding digits canon form_in parsed front behind command_of tokens is_root has_subgroup has_connected has_profile meets cycle owner_not_superior default_group last_special users_full groups_full connections_full user_full add_user_conflicts alt_user_conflicts del_user_conflicts add_group_conflicts alt_group_conflicts del_group_conflicts connect_conflicts remove_conflicts no_first_qualifier no_permitted no_such_class no_resource_class no_global_class no_profile profile_taken not_generic class_profiles_full profiles_full standard_full conditional_full entries_full members_full no_resource_profile add_sd_requirements add_sd_limits r_define_requirements r_define_limits categories_full alt_sd_conflicts del_sd_conflicts r_alter_conflicts r_delete_conflicts permit_conflicts no_user no_group no_owner no_named_group no_class name_taken not_connected default_not_connected unknown_level unknown_category never_category unknown_label add_user_requirements alt_user_requirements del_user_requirements add_group_requirements alt_group_requirements del_group_requirements connect_requirements remove_requirements add_sd_needs r_define_needs alt_sd_requirements del_sd_requirements r_alter_requirements r_delete_requirements permit_requirements is_met need outcome_in issuer_by issuer_of_line request_of is_request reply_line spelled canonical statements_of new_stream request command step text as_number next deleted number_after asked_by verified_by requested read words_at answer_line audited logged audit_line granted acee_of decided verified classified
+unfolding digits canon form_in parsed front behind command_of tokens is_root has_subgroup has_connected has_profile meets cycle owner_not_superior default_group last_special users_full groups_full connections_full user_full add_user_conflicts alt_user_conflicts del_user_conflicts add_group_conflicts alt_group_conflicts del_group_conflicts connect_conflicts remove_conflicts no_first_qualifier no_permitted no_such_class no_resource_class no_global_class no_profile profile_taken not_generic name_not_allowed class_in_use class_profiles_full profiles_full standard_full conditional_full entries_full members_full no_resource_profile add_sd_requirements add_sd_limits r_define_requirements r_define_limits categories_full alt_sd_conflicts del_sd_conflicts r_alter_conflicts r_delete_conflicts permit_conflicts no_user no_group no_owner no_named_group no_class name_taken not_connected default_not_connected unknown_level unknown_category never_category unknown_label add_user_requirements alt_user_requirements del_user_requirements add_group_requirements alt_group_requirements del_group_requirements connect_requirements remove_requirements add_sd_needs r_define_needs alt_sd_requirements del_sd_requirements r_alter_requirements r_delete_requirements permit_requirements is_met need outcome_in issuer_by issuer_of_line request_of is_request reply_line spelled canonical statements_of new_stream request command step text as_number next deleted number_after asked_by verified_by requested read words_at answer_line audited logged audit_line granted acee_of decided verified classified
 skipped = record { prints = refl; ends = refl }
 
 -- Issuers: each command is judged by the one who was named last, and a line that names none changes nothing.
@@ -152,7 +152,7 @@ issuers : Prints
     ++ codes "4 REFUSED NEED SPECIAL CLAUTH(USER)+JOIN(G1) CLAUTH(USER)+OWNER CLAUTH(USER)+GROUPSPECIAL\n"
     ++ codes "4 REFUSED ISSUERUNKNOWN CAT\n")
     Refusals
-unfolding digits canon form_in parsed front behind command_of tokens is_root has_subgroup has_connected has_profile meets cycle owner_not_superior default_group last_special users_full groups_full connections_full user_full add_user_conflicts alt_user_conflicts del_user_conflicts add_group_conflicts alt_group_conflicts del_group_conflicts connect_conflicts remove_conflicts no_first_qualifier no_permitted no_such_class no_resource_class no_global_class no_profile profile_taken not_generic class_profiles_full profiles_full standard_full conditional_full entries_full members_full no_resource_profile add_sd_requirements add_sd_limits r_define_requirements r_define_limits categories_full alt_sd_conflicts del_sd_conflicts r_alter_conflicts r_delete_conflicts permit_conflicts no_user no_group no_owner no_named_group no_class name_taken not_connected default_not_connected unknown_level unknown_category never_category unknown_label add_user_requirements alt_user_requirements del_user_requirements add_group_requirements alt_group_requirements del_group_requirements connect_requirements remove_requirements add_sd_needs r_define_needs alt_sd_requirements del_sd_requirements r_alter_requirements r_delete_requirements permit_requirements is_met need outcome_in issuer_by issuer_of_line request_of is_request reply_line spelled canonical statements_of new_stream request command step text as_number next deleted number_after asked_by verified_by requested read words_at answer_line audited logged audit_line granted acee_of decided verified classified image_of image options group user connection class
+unfolding digits canon form_in parsed front behind command_of tokens is_root has_subgroup has_connected has_profile meets cycle owner_not_superior default_group last_special users_full groups_full connections_full user_full add_user_conflicts alt_user_conflicts del_user_conflicts add_group_conflicts alt_group_conflicts del_group_conflicts connect_conflicts remove_conflicts no_first_qualifier no_permitted no_such_class no_resource_class no_global_class no_profile profile_taken not_generic name_not_allowed class_in_use class_profiles_full profiles_full standard_full conditional_full entries_full members_full no_resource_profile add_sd_requirements add_sd_limits r_define_requirements r_define_limits categories_full alt_sd_conflicts del_sd_conflicts r_alter_conflicts r_delete_conflicts permit_conflicts no_user no_group no_owner no_named_group no_class name_taken not_connected default_not_connected unknown_level unknown_category never_category unknown_label add_user_requirements alt_user_requirements del_user_requirements add_group_requirements alt_group_requirements del_group_requirements connect_requirements remove_requirements add_sd_needs r_define_needs alt_sd_requirements del_sd_requirements r_alter_requirements r_delete_requirements permit_requirements is_met need outcome_in issuer_by issuer_of_line request_of is_request reply_line spelled canonical statements_of new_stream request command step text as_number next deleted number_after asked_by verified_by requested read words_at answer_line audited logged audit_line granted acee_of decided verified classified image_of image_by options group user connection class
 issuers = record { prints = refl; ends = refl }
 
 -- A fixed issuer gives every command, and each line of an issuer is refused, whatever follows; one that is too long is
@@ -161,7 +161,7 @@ fixed : PrintsGiven None (Fixed (codes "ANN"))
     (codes "AU BOB\n*ISSUER IBMUSER\n*issuer\n*ISSUER A,B\nAU BOB\n")
     (codes "0 REFUSED ISSUERUNKNOWN ANN\n0 REFUSED ISSUERFIXED\n0 REFUSED ISSUERFIXED\n0 REFUSED ISSUERFIXED\n0 REFUSED ISSUERUNKNOWN ANN\n")
     Refusals
-unfolding digits canon form_in parsed front behind command_of tokens is_root has_subgroup has_connected has_profile meets cycle owner_not_superior default_group last_special users_full groups_full connections_full user_full add_user_conflicts alt_user_conflicts del_user_conflicts add_group_conflicts alt_group_conflicts del_group_conflicts connect_conflicts remove_conflicts no_first_qualifier no_permitted no_such_class no_resource_class no_global_class no_profile profile_taken not_generic class_profiles_full profiles_full standard_full conditional_full entries_full members_full no_resource_profile add_sd_requirements add_sd_limits r_define_requirements r_define_limits categories_full alt_sd_conflicts del_sd_conflicts r_alter_conflicts r_delete_conflicts permit_conflicts no_user no_group no_owner no_named_group no_class name_taken not_connected default_not_connected unknown_level unknown_category never_category unknown_label add_user_requirements alt_user_requirements del_user_requirements add_group_requirements alt_group_requirements del_group_requirements connect_requirements remove_requirements add_sd_needs r_define_needs alt_sd_requirements del_sd_requirements r_alter_requirements r_delete_requirements permit_requirements is_met need outcome_in issuer_by issuer_of_line request_of is_request reply_line spelled canonical statements_of new_stream request command step text as_number next deleted number_after asked_by verified_by requested read words_at answer_line audited logged audit_line granted acee_of decided verified classified image_of image options group user connection class
+unfolding digits canon form_in parsed front behind command_of tokens is_root has_subgroup has_connected has_profile meets cycle owner_not_superior default_group last_special users_full groups_full connections_full user_full add_user_conflicts alt_user_conflicts del_user_conflicts add_group_conflicts alt_group_conflicts del_group_conflicts connect_conflicts remove_conflicts no_first_qualifier no_permitted no_such_class no_resource_class no_global_class no_profile profile_taken not_generic name_not_allowed class_in_use class_profiles_full profiles_full standard_full conditional_full entries_full members_full no_resource_profile add_sd_requirements add_sd_limits r_define_requirements r_define_limits categories_full alt_sd_conflicts del_sd_conflicts r_alter_conflicts r_delete_conflicts permit_conflicts no_user no_group no_owner no_named_group no_class name_taken not_connected default_not_connected unknown_level unknown_category never_category unknown_label add_user_requirements alt_user_requirements del_user_requirements add_group_requirements alt_group_requirements del_group_requirements connect_requirements remove_requirements add_sd_needs r_define_needs alt_sd_requirements del_sd_requirements r_alter_requirements r_delete_requirements permit_requirements is_met need outcome_in issuer_by issuer_of_line request_of is_request reply_line spelled canonical statements_of new_stream request command step text as_number next deleted number_after asked_by verified_by requested read words_at answer_line audited logged audit_line granted acee_of decided verified classified image_of image_by options group user connection class
 fixed = record { prints = refl; ends = refl }
 
 -- A disk fails the second command: those behind it are told so, and requests are answered on.
@@ -169,7 +169,7 @@ failed : PrintsFailing (Some 1)
     (codes "AU ANN\nAU BOB\nAU CAT\nVERIFY A ANN\n")
     (codes "1 ACCEPTED\n1 DISKFAULT\n1 HALTED\n1 0 VERIFIED\n")
     DiskFault
-unfolding digits canon form_in parsed front behind command_of tokens is_root has_subgroup has_connected has_profile meets cycle owner_not_superior default_group last_special users_full groups_full connections_full user_full add_user_conflicts alt_user_conflicts del_user_conflicts add_group_conflicts alt_group_conflicts del_group_conflicts connect_conflicts remove_conflicts no_first_qualifier no_permitted no_such_class no_resource_class no_global_class no_profile profile_taken not_generic class_profiles_full profiles_full standard_full conditional_full entries_full members_full no_resource_profile add_sd_requirements add_sd_limits r_define_requirements r_define_limits categories_full alt_sd_conflicts del_sd_conflicts r_alter_conflicts r_delete_conflicts permit_conflicts no_user no_group no_owner no_named_group no_class name_taken not_connected default_not_connected unknown_level unknown_category never_category unknown_label add_user_requirements alt_user_requirements del_user_requirements add_group_requirements alt_group_requirements del_group_requirements connect_requirements remove_requirements add_sd_needs r_define_needs alt_sd_requirements del_sd_requirements r_alter_requirements r_delete_requirements permit_requirements is_met need outcome_in issuer_by issuer_of_line request_of is_request reply_line spelled canonical statements_of new_stream request command step text as_number next deleted number_after asked_by verified_by requested read words_at answer_line audited logged audit_line granted acee_of decided verified classified image_of image options group user connection class
+unfolding digits canon form_in parsed front behind command_of tokens is_root has_subgroup has_connected has_profile meets cycle owner_not_superior default_group last_special users_full groups_full connections_full user_full add_user_conflicts alt_user_conflicts del_user_conflicts add_group_conflicts alt_group_conflicts del_group_conflicts connect_conflicts remove_conflicts no_first_qualifier no_permitted no_such_class no_resource_class no_global_class no_profile profile_taken not_generic name_not_allowed class_in_use class_profiles_full profiles_full standard_full conditional_full entries_full members_full no_resource_profile add_sd_requirements add_sd_limits r_define_requirements r_define_limits categories_full alt_sd_conflicts del_sd_conflicts r_alter_conflicts r_delete_conflicts permit_conflicts no_user no_group no_owner no_named_group no_class name_taken not_connected default_not_connected unknown_level unknown_category never_category unknown_label add_user_requirements alt_user_requirements del_user_requirements add_group_requirements alt_group_requirements del_group_requirements connect_requirements remove_requirements add_sd_needs r_define_needs alt_sd_requirements del_sd_requirements r_alter_requirements r_delete_requirements permit_requirements is_met need outcome_in issuer_by issuer_of_line request_of is_request reply_line spelled canonical statements_of new_stream request command step text as_number next deleted number_after asked_by verified_by requested read words_at answer_line audited logged audit_line granted acee_of decided verified classified image_of image_by options group user connection class
 failed = record { prints = refl; ends = refl }
 
 -- The empty input prints nothing.

@@ -1,7 +1,7 @@
 //! The profiles of one class in an image.
 ghost use Rattle.std.specs.Prelude.{◌≡◌, ◌<◌, ◌≤◌, [], length, Some, IfOk, IsSomeAnd, option_map};
 ghost use Rattle.std.specs.List.{find, slice_get};
-ghost use Rattle.std.specs.Option.{option_map_or};
+ghost use Rattle.std.specs.Option.{option_copied, option_map_or};
 ghost use Rattle.racf_profiles.specs.declared.profiles.Profile.{Profile};
 ghost use Rattle.racf_profiles.specs.Lookup.{is_profile};
 ghost use Rattle.racf_profiles.specs.Edits.{put_profile, drop_row};
@@ -121,6 +121,13 @@ impl ClassImage {
     {
         let (name, profile) = self.profiles.named_at(place);
         facts_of(name, profile)
+    }
+
+    /// The profile of that very name.
+    pub(crate) fn get(&self, name: &Pattern) -> Option<&Profile>
+        ensures { option_copied result ≡ find (is_profile name.now) self.now.profiles }
+    {
+        self.profiles.get(name)
     }
 
     /// The members of the profile of that very name; none where there is no such profile.

@@ -1,20 +1,22 @@
 //! The classes of an image.
-ghost use Rattle.std.specs.Prelude.{◌≡◌, ◌<◌, ◌≤◌, length, position, find, slice_get, Some, IfOk, IfSome, OnOk};
+ghost use Rattle.std.specs.Prelude.{◌≡◌, ◌<◌, ◌≤◌, ◌++◌, ◌∷◌, [], length, position, find, slice_get, slice_set, option_map, Some, IfOk, IfSome, OnOk};
 ghost use Rattle.std.specs.Arc.{arc_value};
 ghost use Rattle.std.specs.Option.{option_copied};
 ghost use Rattle.racf_profiles.specs.declared.class_rows.ClassRow.{ClassRow};
 ghost use Rattle.racf_profiles.specs.Lookup.{is_class};
-ghost use Rattle.racf_profiles.specs.Edits.{put_profile, at_class, with_profile, without_profile, with_flags, with_listed};
+ghost use Rattle.racf_profiles.specs.Edits.{put_profile, at_class, with_profile, without_profile, with_flags, with_listed, added_class, without_class};
 ghost use Rattle.racf_profiles.specs.LawfulProfiles.{AreProfiles, AreClasses, kind_in};
 ghost use Rattle.profile_index.specs.Buckets.{most_placed};
-ghost use Rattle.raclist_image.specs.Flags.{flags_of_row};
+ghost use Rattle.raclist_image.specs.Flags.{options_of_row};
 
 use crate::class_image::ClassImage;
-use crate::flags::ClassFlags;
+use crate::flags::ClassOptions;
+use crate::index::places_of;
 use access_levels::Id;
 use class_profiles::Made;
 use generic_names::Pattern;
-use racf_profiles::{ClassRow, LogOption, NoMemory, Profile, allows_operations, kind_in};
+use indexmap::IndexMap;
+use racf_profiles::{ClassRow, LogOption, NoMemory, Profile, kind_in};
 use std::alloc::Global;
 use std::marker::Model;
 use std::sync::Arc;
@@ -24,8 +26,8 @@ use std::sync::Arc;
 pub(crate) struct ClassEntry {
     /// Its name.
     name: Id,
-    /// Its flags, and what the class table says of OPERATIONS.
-    flags: ClassFlags,
+    /// What is set for it.
+    options: ClassOptions,
     /// Its live profiles, by name and by what they cover.
     profiles: Arc<ClassImage>,
 }
@@ -52,7 +54,24 @@ impl ClassEntry {
         let profiles = ClassImage::of(alloc, row.profiles.items.as_slice(), kind)?;
         Ok(ClassEntry {
             name: row.name,
-            flags: flags_of_row(row),
+            options: options_of_row(row),
+            profiles: Arc::new(alloc, profiles)?,
+        })
+    }
+
+    /// A class that is added: inactive, without profiles, logged by its profiles.
+    fn added(alloc: Global, name: Id) -> Result<ClassEntry, NoMemory>
+        ensures { IfOk result (λ class. class ≡ added_class name) }
+    {
+        let profiles = ClassImage::of(alloc, &[], kind_in(name))?;
+        Ok(ClassEntry {
+            name,
+            options: ClassOptions {
+                active: false,
+                listed: false,
+                global: false,
+                log: LogOption::ByProfile,
+            },
             profiles: Arc::new(alloc, profiles)?,
         })
     }
@@ -64,11 +83,11 @@ impl ClassEntry {
         self.name
     }
 
-    /// Its flags.
-    pub(crate) fn flags(&self) -> ClassFlags
-        ensures { result ≡ flags_of_row self.now }
+    /// What is set for it.
+    pub(crate) fn options(&self) -> ClassOptions
+        ensures { result ≡ options_of_row self.now }
     {
-        self.flags
+        self.options
     }
 
     /// Its live profiles.
@@ -93,7 +112,7 @@ impl ClassEntry {
     {
         Ok(ClassEntry {
             name: self.name,
-            flags: self.flags,
+            options: self.options,
             profiles: Arc::try_clone(&self.profiles)?,
         })
     }
@@ -107,7 +126,7 @@ impl ClassEntry {
         let made = self.profiles.with_profile(alloc, profile)?;
         let what = ClassEntry {
             name: self.name,
-            flags: self.flags,
+            options: self.options,
             profiles: Arc::new(alloc, made.what)?,
         };
         Ok(Made {
@@ -125,7 +144,7 @@ impl ClassEntry {
         let made = self.profiles.without_profile(alloc, name)?;
         let what = ClassEntry {
             name: self.name,
-            flags: self.flags,
+            options: self.options,
             profiles: Arc::new(alloc, made.what)?,
         };
         Ok(Made {
@@ -140,11 +159,10 @@ impl ClassEntry {
     {
         Ok(ClassEntry {
             name: self.name,
-            flags: ClassFlags {
+            options: ClassOptions {
                 active,
-                listed: self.flags.listed,
+                listed: self.options.listed,
                 global,
-                operations: self.flags.operations,
                 log,
             },
             profiles: Arc::try_clone(&self.profiles)?,
@@ -157,46 +175,50 @@ impl ClassEntry {
     {
         Ok(ClassEntry {
             name: self.name,
-            flags: ClassFlags {
-                active: self.flags.active,
+            options: ClassOptions {
+                active: self.options.active,
                 listed,
-                global: self.flags.global,
-                operations: self.flags.operations,
-                log: self.flags.log,
+                global: self.options.global,
+                log: self.options.log,
             },
             profiles: Arc::try_clone(&self.profiles)?,
         })
     }
 }
 
-/// The flags of this class.
-fn flags_of_row(row: &ClassRow) -> ClassFlags
-    ensures { result ≡ flags_of_row row.now }
+/// What is set for this class.
+fn options_of_row(row: &ClassRow) -> ClassOptions
+    ensures { result ≡ options_of_row row.now }
 {
-    ClassFlags {
+    ClassOptions {
         active: row.active,
         listed: row.listed,
         global: row.global,
-        operations: allows_operations(row.name),
         log: row.log,
     }
 }
 
 /// The classes in their order. A version that was changed shares with the one before the profiles of all classes but
-/// the changed ones.
+/// the changed ones, and the index of names too unless a class was added or dropped.
 #[derive(Drop)]
 pub(crate) struct ClassList {
-    /// The fourteen classes.
+    /// The fixed classes, and behind them the dynamic ones.
     classes: Vec<ClassEntry>,
+    /// The place of each class by its name.
+    places: Arc<IndexMap<Id, usize>>,
 }
 
 impl Model for ClassList {
     ghost use Rattle.std.specs.Prelude.{List};
+    ghost use Rattle.std.specs.Arc.{arc_value};
     ghost use Rattle.racf_profiles.specs.declared.class_rows.ClassRow.{ClassRow};
+    ghost use Rattle.raclist_image.specs.KeptClasses.{ArePlacesOf};
 
     ghost Value = { List ClassRow };
 
     ghost view = { λ list. list.classes.items };
+
+    ghost invariant = { λ list. ArePlacesOf list.classes.items (arc_value list.places) };
 }
 
 impl ClassList {
@@ -209,18 +231,28 @@ impl ClassList {
         for row in rows {
             classes.push(ClassEntry::of(alloc, row)?)?;
         }
-        Ok(ClassList { classes })
+        ClassList::placed(alloc, classes)
+    }
+
+    /// These classes, with an index of their names that is made anew.
+    fn placed(alloc: Global, classes: Vec<ClassEntry>) -> Result<ClassList, NoMemory>
+        ensures { IfOk result (λ list. list ≡ classes.items) }
+    {
+        let places = places_of(alloc, classes.as_slice())?;
+        Ok(ClassList {
+            classes,
+            places: Arc::new(alloc, places)?,
+        })
     }
 
     /// The same classes once more.
     pub(crate) fn share(&self, alloc: Global) -> Result<ClassList, NoMemory>
         ensures { IfOk result (λ list. list ≡ self.now) }
     {
-        let mut classes = Vec::with_capacity(alloc, self.classes.len())?;
-        for class in &self.classes {
-            classes.push(class.share()?)?;
-        }
-        Ok(ClassList { classes })
+        Ok(ClassList {
+            classes: shared(alloc, self.classes.as_slice())?,
+            places: Arc::try_clone(&self.places)?,
+        })
     }
 
     /// How many classes there are.
@@ -238,7 +270,7 @@ impl ClassList {
         &self.classes[place]
     }
 
-    /// The class of that name, found by going through the classes, of which there are fourteen.
+    /// The class of that name, found in the index.
     pub(crate) fn get(&self, name: Id) -> Option<&ClassEntry>
         ensures class { option_copied result ≡ find (is_class name) self.now }
         ensures named { IfSome result (λ class. class.now.name ≡ name) }
@@ -264,7 +296,7 @@ impl ClassList {
             return Ok(0);
         };
         let made = self.at(place).with_profile(alloc, profile)?;
-        self.classes[place] = made.what;
+        self.replace(place, made.what);
         Ok(made.placed)
     }
 
@@ -283,7 +315,7 @@ impl ClassList {
             return Ok(0);
         };
         let made = self.at(place).without_profile(alloc, name)?;
-        self.classes[place] = made.what;
+        self.replace(place, made.what);
         Ok(made.placed)
     }
 
@@ -301,7 +333,7 @@ impl ClassList {
             return Ok(());
         };
         let entry = self.at(place).with_flags(active, global, log)?;
-        self.classes[place] = entry;
+        self.replace(place, entry);
         Ok(())
     }
 
@@ -313,14 +345,68 @@ impl ClassList {
             return Ok(());
         };
         let entry = self.at(place).with_listed(listed)?;
-        self.classes[place] = entry;
+        self.replace(place, entry);
         Ok(())
+    }
+
+    /// Adds a class last, if there is memory: inactive, without profiles, logged by its profiles.
+    pub(crate) fn add(&mut self, alloc: Global, class: Id) -> Result<(), NoMemory>
+        ensures { OnOk result (self.new ≡ self.old ++ added_class class ∷ []) }
+    {
+        let mut classes = shared(alloc, self.classes.as_slice())?;
+        classes.push(ClassEntry::added(alloc, class)?)?;
+        *self = ClassList::placed(alloc, classes)?;
+        Ok(())
+    }
+
+    /// Drops the class of that name, with its profiles.
+    pub(crate) fn drop_class(&mut self, alloc: Global, class: Id) -> Result<(), NoMemory>
+        ensures { OnOk result (self.new ≡ without_class class self.old) }
+    {
+        let classes = others(alloc, self.classes.as_slice(), class)?;
+        *self = ClassList::placed(alloc, classes)?;
+        Ok(())
+    }
+
+    /// Puts a class in the place of one of its name.
+    fn replace(&mut self, place: usize, entry: ClassEntry)
+        requires { option_map (λ (class : ClassRow). class.name) (slice_get self.old place) ≡ Some entry.name }
+        ensures { self.new ≡ slice_set self.old place entry }
+    {
+        self.classes[place] = entry;
     }
 
     /// The place of the class of that name.
     fn place(&self, name: Id) -> Option<usize>
         ensures { result ≡ position (is_class name) self.now }
     {
-        self.classes.iter().position(|class| class.name == name)
+        match self.places.get(&name) {
+            Some(place) => Some(*place),
+            None => None,
+        }
     }
+}
+
+/// These classes once more.
+fn shared(alloc: Global, entries: &[ClassEntry]) -> Result<Vec<ClassEntry>, NoMemory>
+    ensures { IfOk result (λ classes. classes.items ≡ entries.now) }
+{
+    let mut classes = Vec::with_capacity(alloc, entries.len())?;
+    for entry in entries {
+        classes.push(entry.share()?)?;
+    }
+    Ok(classes)
+}
+
+/// These classes without those of that name.
+fn others(alloc: Global, entries: &[ClassEntry], class: Id) -> Result<Vec<ClassEntry>, NoMemory>
+    ensures { IfOk result (λ classes. classes.items ≡ without_class class entries.now) }
+{
+    let mut classes = Vec::with_capacity(alloc, entries.len())?;
+    for entry in entries {
+        if entry.name != class {
+            classes.push(entry.share()?)?;
+        }
+    }
+    Ok(classes)
 }

@@ -67,7 +67,7 @@ impl ListedProfiles {
     }
 }
 
-/// The listed copies, in the order in which they came. There are fourteen at most.
+/// The listed copies, in the order in which they came. There are at most as many as there are classes.
 #[derive(Drop)]
 pub(crate) struct CopyList {
     /// The copies.
@@ -150,7 +150,7 @@ impl CopyList {
 fn push_if_listed(class: &ClassEntry, copies: &mut Vec<ListedProfiles>) -> Result<(), NoMemory>
     ensures { OnOk result (copies.new.items ≡ copies.old.items ++ (if class.now.listed then copy_of_class class.now ∷ [] else [])) }
 {
-    if class.flags().listed {
+    if class.options().listed {
         copies.push(ListedProfiles::of(class)?)?;
     }
     Ok(())

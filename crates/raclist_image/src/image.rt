@@ -8,12 +8,13 @@ ghost use Rattle.racf_profiles.specs.State.{restart, effective, changed_state};
 ghost use Rattle.racf_profiles.specs.Scope.{InScopeProfile};
 ghost use Rattle.racf_profiles.specs.LawfulProfiles.{kind_in};
 ghost use Rattle.racf_profiles.specs.Lawful.{AreLawful, LeaveLawfulClasses};
-ghost use Rattle.raclist_image.specs.Flags.{flags_of};
+ghost use Rattle.racf_profiles.specs.DynamicClasses.{facts_in, allows_operations};
+ghost use Rattle.raclist_image.specs.Flags.{options_of, flags_of};
 ghost use Rattle.raclist_image.specs.GlobalMembers.{global_members};
 ghost use Rattle.raclist_image.specs.PlacedNames.{names_placed, most_placed_by};
 
 use crate::class_image::ClassImage;
-use crate::flags::ClassFlags;
+use crate::flags::{ClassFlags, ClassOptions};
 use crate::names::names_length;
 use crate::state::ImageState;
 use access_levels::Id;
@@ -21,7 +22,8 @@ use class_profiles::Made;
 use generic_names::Pattern;
 use group_tree::{in_scope_group, in_scope_user};
 use racf_profiles::{
-    Change, FixedClass, Group, Member, NoMemory, Options, Rows, User, general_name,
+    Change, ClassFacts, FixedClass, Group, Member, NoMemory, Options, Rows, User, facts_in,
+    general_name,
 };
 use std::alloc::Global;
 use std::marker::Model;
@@ -149,7 +151,7 @@ impl Image {
         ensures kind { IfSome result (λ image. image.now.kind ≡ kind_in class) }
     {
         let entry = self.state.classes.get(class)?;
-        if entry.flags().listed {
+        if entry.options().listed {
             return self.state.copies.get(class);
         }
         Some(entry.profiles())
@@ -192,13 +194,51 @@ impl Image {
         self.state.options()
     }
 
-    /// The flags of the class of that name. None where no class has the name.
-    pub fn class(&self, class: Id) -> Option<ClassFlags>
+    /// What is set for the class of that name. None where no class has the name.
+    pub fn class(&self, class: Id) -> Option<ClassOptions>
+        ensures { result ≡ options_of class self.now.state }
+    {
+        match self.state.classes.get(class) {
+            Some(entry) => Some(entry.options()),
+            None => None,
+        }
+    }
+
+    /// The flags of the class of that name: what `class` answers, with whether the class allows OPERATIONS, for which
+    /// it is looked up once more. None where no class has the name.
+    pub fn class_flags(&self, class: Id) -> Option<ClassFlags>
         ensures { result ≡ flags_of class self.now.state }
     {
         match self.state.classes.get(class) {
-            Some(entry) => Some(entry.flags()),
+            Some(entry) => {
+                let options = entry.options();
+                Some(ClassFlags {
+                    active: options.active,
+                    listed: options.listed,
+                    global: options.global,
+                    operations: self.allows_operations(class),
+                    log: options.log,
+                })
+            }
             None => None,
+        }
+    }
+
+    /// What the class of that name allows: of a fixed class what the class table says, of a dynamic one what its live
+    /// profile in CDT says, which is looked up. None where it is neither.
+    pub fn facts_in(&self, class: Id) -> Option<ClassFacts>
+        ensures { result ≡ facts_in class self.now.state.rows }
+    {
+        facts_in(&self.state, class)
+    }
+
+    /// Whether OPERATIONS gives access in the class of that name, as `facts_in` says.
+    pub fn allows_operations(&self, class: Id) -> bool
+        ensures { result ≡ allows_operations class self.now.state.rows }
+    {
+        match self.facts_in(class) {
+            Some(facts) => facts.operations,
+            None => false,
         }
     }
 

@@ -19,7 +19,7 @@ use access_levels::Id;
 use defined_rows::DefinedRows;
 use generic_names::Pattern;
 use group_tree::GroupList;
-use racf_profiles::{Edit, Group, LogOption, NoMemory, Options, Profile, Rows, User};
+use racf_profiles::{Edit, Group, LogOption, NoMemory, Options, Profile, Rows, User, View};
 use std::alloc::Global;
 use std::marker::Model;
 use std::sync::Arc;
@@ -153,6 +153,8 @@ impl ImageState {
             }
             Edit::List(class) => none_placed(self.list(*class)),
             Edit::Unlist(class) => none_placed(self.unlist(*class)),
+            Edit::AddClass(class) => none_placed(self.classes.add(alloc, *class)),
+            Edit::DropClass(class) => none_placed(self.drop_class(alloc, *class)),
         }
     }
 
@@ -223,6 +225,37 @@ impl ImageState {
         };
         self.copies.remove(class);
         self.classes.set_listed(class, false)
+    }
+
+    /// Drops a class, with its profiles and its listed copy, if the class is there.
+    fn drop_class(&mut self, alloc: Global, class: Id) -> Result<(), NoMemory>
+        ensures { OnOk result (self.new ≡ edited_state (edits.DropClass class) self.old) }
+    {
+        racf_profiles::laws::absent_changes_nothing();
+        let Some(_entry) = self.classes.get(class) else {
+            return Ok(());
+        };
+        self.copies.remove(class);
+        self.classes.drop_class(alloc, class)
+    }
+}
+
+impl View for ImageState {
+    ghost rows = { λ state. state.rows };
+
+    fn user(&self, id: Id) -> Option<&User> {
+        ImageState::user(self, id)
+    }
+
+    fn group(&self, id: Id) -> Option<&Group> {
+        ImageState::group(self, id)
+    }
+
+    fn profile(&self, class: Id, name: &Pattern) -> Option<&Profile> {
+        match self.classes.get(class) {
+            Some(entry) => entry.profiles().get(name),
+            None => None,
+        }
     }
 }
 

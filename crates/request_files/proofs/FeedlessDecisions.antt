@@ -123,6 +123,7 @@ member_name-words : (member : Member) → IsFeedlessMember member → IsFeedless
 member_name-words (member.Access resources level) h = h
 member_name-words (member.SecurityLevel name number) h = h
 member_name-words (member.Category name) h = h
+member_name-words (member.Traits traits) h = refl
 
 member-words : (members : List Member) (place : ℕ) → AllByRecursion IsFeedlessMember members → IsFeedless (member_words members place)
 member-words [] place are = refl

@@ -244,7 +244,7 @@ fn write_member(members: &[Member], place: usize, out: &mut Vec<u8>) -> Result<(
     ensures front { Keeps out.old.items out.new.items }
 {
     match members.get(place) {
-        None => Ok(()),
+        None | Some(Member::Traits(_)) => Ok(()),
         Some(Member::Access(resources, _)) => out.extend_from_slice(resources.text()),
         Some(Member::SecurityLevel(name, _) | Member::Category(name)) => {
             out.extend_from_slice(name.text())

@@ -7,12 +7,12 @@ use Rattle.racf_profiles.specs.declared.class_rows.ClassRow.{ClassRow}
 use Rattle.racf_profiles.specs.declared.profiles.Profile.{Profile}
 use Rattle.racf_profiles.specs.declared.rows.Rows.{Rows}
 use Rattle.racf_profiles.specs.declared.edits.Edit.{Edit}
-use Rattle.racf_profiles.specs.declared.edits.Edit.TheVariants.{PutUser, DropUser, PutGroup, DropGroup, PutProfile, DropProfile, PutOptions, PutClass, List as ListCopy, Unlist}
+use Rattle.racf_profiles.specs.declared.edits.Edit.TheVariants.{PutUser, DropUser, PutGroup, DropGroup, PutProfile, DropProfile, PutOptions, PutClass, List as ListCopy, Unlist, AddClass, DropClass}
 use Rattle.racf_profiles.specs.Lookup.{is_class, find_group}
 use Rattle.racf_profiles.specs.Edits.{at_class, with_profile, without_profile, with_flags, with_listed, edited, changed}
 use Rattle.class_profiles.specs.Classes.{room_among}
 use Rattle.row_tables.specs.Tables.{Tables}
-use Rattle.row_tables.specs.Applying.{CanMake, CanApply, CanAddGroup, CanMoveGroup, HasAtLeast, tables_after, less_room, one_less, puts_into, puts_user, puts_group}
+use Rattle.row_tables.specs.Applying.{CanMake, CanApply, CanAddGroup, CanMoveGroup, HasAtLeast, tables_after, less_room, room_left, one_less, puts_into, puts_user, puts_group, adds_class, changes_classes}
 
 -- ---- room by name
 -- a change that keeps names keeps the room
@@ -46,22 +46,35 @@ room-less edit name (c ∷ cs) (n ∷ spare) = by (is_class name c) refl (room-l
     by true is rest = ap (λ k. one_less (puts_into k edit) n) ((bytes_eq-Decides c.name name).0 is)
     by false is rest = rest
 
--- and no edit changes the names of the classes
-pub room-edited : (edit : Edit) (name : List ℕ) (rows : Rows) (spare : List ℕ) → room_among name (edited edit rows).classes spare ≡ room_among name rows.classes spare
-room-edited (PutUser user) name rows spare = refl
-room-edited (DropUser id) name rows spare = refl
-room-edited (PutGroup group) name rows spare = refl
-room-edited (DropGroup id) name rows spare = refl
-room-edited (PutProfile class profile) name rows spare = room-at_class name class (with_profile profile) (λ row. refl) rows.classes spare
-room-edited (DropProfile class profile) name rows spare = room-at_class name class (without_profile profile) (λ row. refl) rows.classes spare
-room-edited (PutOptions options) name rows spare = refl
-room-edited (PutClass class active global log) name rows spare = room-at_class name class (with_flags active global log) (λ row. refl) rows.classes spare
-room-edited (ListCopy class) name rows spare = room-at_class name class (with_listed true) (λ row. refl) rows.classes spare
-room-edited (Unlist class) name rows spare = room-at_class name class (with_listed false) (λ row. refl) rows.classes spare
+-- and other edits than those that add and drop classes leave the names of the classes
+pub room-edited : (edit : Edit) (name : List ℕ) (rows : Rows) (spare : List ℕ) → changes_classes edit ≡ false → room_among name (edited edit rows).classes spare ≡ room_among name rows.classes spare
+room-edited (PutUser user) name rows spare plain = refl
+room-edited (DropUser id) name rows spare plain = refl
+room-edited (PutGroup group) name rows spare plain = refl
+room-edited (DropGroup id) name rows spare plain = refl
+room-edited (PutProfile class profile) name rows spare plain = room-at_class name class (with_profile profile) (λ row. refl) rows.classes spare
+room-edited (DropProfile class profile) name rows spare plain = room-at_class name class (without_profile profile) (λ row. refl) rows.classes spare
+room-edited (PutOptions options) name rows spare plain = refl
+room-edited (PutClass class active global log) name rows spare plain = room-at_class name class (with_flags active global log) (λ row. refl) rows.classes spare
+room-edited (ListCopy class) name rows spare plain = room-at_class name class (with_listed true) (λ row. refl) rows.classes spare
+room-edited (Unlist class) name rows spare plain = room-at_class name class (with_listed false) (λ row. refl) rows.classes spare
+room-edited (AddClass class) name rows spare plain = cc
+room-edited (DropClass class) name rows spare plain = cc
 
 -- what an edit leaves, by name
-pub room-after : (edit : Edit) (tables : Tables) (name : List ℕ) → room_among name (tables_after edit tables).rows.classes (tables_after edit tables).spare_profiles ≡ one_less (puts_into name edit) (room_among name tables.rows.classes tables.spare_profiles)
-room-after edit tables name = room-edited edit name tables.rows (less_room edit tables.rows.classes tables.spare_profiles) ∙ room-less edit name tables.rows.classes tables.spare_profiles
+pub room-after : (edit : Edit) (tables : Tables) (name : List ℕ) → changes_classes edit ≡ false
+    → room_among name (tables_after edit tables).rows.classes (tables_after edit tables).spare_profiles ≡ one_less (puts_into name edit) (room_among name tables.rows.classes tables.spare_profiles)
+room-after edit tables name plain =
+    ap (λ b. room_among name (edited edit tables.rows).classes (cond b [] (less_room edit tables.rows.classes tables.spare_profiles))) plain
+    ∙ room-edited edit name tables.rows (less_room edit tables.rows.classes tables.spare_profiles) plain ∙ room-less edit name tables.rows.classes tables.spare_profiles
+
+room-none : (name : List ℕ) (classes : List ClassRow) → room_among name classes [] ≡ 0
+room-none name [] = refl
+room-none name (class ∷ classes) = refl
+
+pub room-changed : (edit : Edit) (tables : Tables) (name : List ℕ) → changes_classes edit ≡ true → room_among name (tables_after edit tables).rows.classes (tables_after edit tables).spare_profiles ≡ 0
+room-changed edit tables name changes =
+    ap (λ b. room_among name (edited edit tables.rows).classes (cond b [] (less_room edit tables.rows.classes tables.spare_profiles))) changes ∙ room-none name (edited edit tables.rows).classes
 
 one_less-le : (b : Bool) (m n : ℕ) → m ≤ n → one_less b m ≤ one_less b n
 one_less-le true m n less = omega arith
@@ -74,7 +87,11 @@ one_less-one m n less = omega arith
 -- an edit that puts no profile leaves the room
 pub room-stays : (edit : Edit) (tables : Tables) → ((name : List ℕ) → puts_into name edit ≡ false) → (name : List ℕ)
     → room_among name (tables_after edit tables).rows.classes (tables_after edit tables).spare_profiles ≤ room_among name tables.rows.classes tables.spare_profiles
-room-stays edit tables none name = let same = room-after edit tables name ∙ ap (λ b. one_less b (room_among name tables.rows.classes tables.spare_profiles)) (none name) in omega (arith, same)
+room-stays edit tables none name = by (changes_classes edit) refl
+  where
+    by : (b : Bool) → changes_classes edit ≡ b → room_among name (tables_after edit tables).rows.classes (tables_after edit tables).spare_profiles ≤ room_among name tables.rows.classes tables.spare_profiles
+    by true is = let same = room-changed edit tables name is in omega (arith, same)
+    by false is = let same = room-after edit tables name is ∙ ap (λ b. one_less b (room_among name tables.rows.classes tables.spare_profiles)) (none name) in omega (arith, same)
 
 -- one that puts a profile takes one from the room of its class
 pub room-put : (class : List ℕ) (profile : Profile) (tables : Tables) (left : List ℕ → ℕ) → room_among class tables.rows.classes tables.spare_profiles ≤ left class + 1
@@ -85,21 +102,21 @@ room-put class profile tables left own others name = by (bytes_eq class name) re
     by : (b : Bool) → bytes_eq class name ≡ b → room_among name (tables_after (PutProfile class profile) tables).rows.classes (tables_after (PutProfile class profile) tables).spare_profiles ≤ left name
     by true is =
         let here : room_among name tables.rows.classes tables.spare_profiles ≤ left name + 1 = subst (λ n. room_among n tables.rows.classes tables.spare_profiles ≤ left n + 1) ((bytes_eq-Decides class name).0 is) own in
-        let same = room-after (PutProfile class profile) tables name ∙ ap (λ b. one_less b (room_among name tables.rows.classes tables.spare_profiles)) is in
+        let same = room-after (PutProfile class profile) tables name refl ∙ ap (λ b. one_less b (room_among name tables.rows.classes tables.spare_profiles)) is in
         omega (arith, same, one_less-one (room_among name tables.rows.classes tables.spare_profiles) (left name) here)
     by false is =
-        let same = room-after (PutProfile class profile) tables name ∙ ap (λ b. one_less b (room_among name tables.rows.classes tables.spare_profiles)) is in
+        let same = room-after (PutProfile class profile) tables name refl ∙ ap (λ b. one_less b (room_among name tables.rows.classes tables.spare_profiles)) is in
         let kept = others name is in
         omega (arith, same, kept)
 
 -- ---- more room
-module _ (rows : Rows) (users users' groups groups' : ℕ) (profiles profiles' : List ℕ) (more_users : users ≤ users') (more_groups : groups ≤ groups')
-    (more_profiles : (class : List ℕ) → room_among class rows.classes profiles ≤ room_among class rows.classes profiles') where
+module _ (rows : Rows) (users users' groups groups' : ℕ) (profiles profiles' : List ℕ) (classes classes' : ℕ) (more_users : users ≤ users') (more_groups : groups ≤ groups')
+    (more_profiles : (class : List ℕ) → room_among class rows.classes profiles ≤ room_among class rows.classes profiles') (more_of_them : classes ≤ classes') where
   abbrev less : Tables
-  less = record { rows = rows; spare_users = users; spare_groups = groups; spare_profiles = profiles }
+  less = record { rows = rows; spare_users = users; spare_groups = groups; spare_profiles = profiles; more_classes = classes }
 
   abbrev more : Tables
-  more = record { rows = rows; spare_users = users'; spare_groups = groups'; spare_profiles = profiles' }
+  more = record { rows = rows; spare_users = users'; spare_groups = groups'; spare_profiles = profiles'; more_classes = classes' }
 
   put_group-more : (group : Group) (old : Option Group) → MatchOption old (CanAddGroup (record { groups = rows.groups; spare = groups }) group) (λ (o : Group). (o.superior ≡ group.superior) ⊎ CanMoveGroup rows.groups group)
       → MatchOption old (CanAddGroup (record { groups = rows.groups; spare = groups' }) group) (λ (o : Group). (o.superior ≡ group.superior) ⊎ CanMoveGroup rows.groups group)
@@ -123,17 +140,24 @@ module _ (rows : Rows) (users users' groups groups' : ℕ) (profiles profiles' :
   can-more (PutClass class active global log) can = can
   can-more (ListCopy class) can = can
   can-more (Unlist class) can = can
+  can-more (AddClass class) can = record { room = omega (arith, can.room, more_of_them); names = can.names }
+  can-more (DropClass class) can = record { dynamic = can.dynamic; empty = can.empty }
 
   pub after-more : (edit : Edit) → HasAtLeast (tables_after edit less) (tables_after edit more)
   after-more edit = record {
     rows = refl;
     users = one_less-le (puts_user edit) users users' more_users;
     groups = one_less-le (puts_group edit) groups groups' more_groups;
-    profiles = λ class.
-        let before = room-after edit less class in
-        let now = room-after edit more class in
-        omega (arith, before, now, one_less-le (puts_into class edit) (room_among class rows.classes profiles) (room_among class rows.classes profiles') (more_profiles class));
+    profiles = λ class. by class (changes_classes edit) refl;
+    classes = one_less-le (adds_class edit) classes classes' more_of_them;
   }
+    where
+      by : (class : List ℕ) (b : Bool) → changes_classes edit ≡ b → room_among class (tables_after edit less).rows.classes (tables_after edit less).spare_profiles ≤ room_among class (tables_after edit more).rows.classes (tables_after edit more).spare_profiles
+      by class true is = let before = room-changed edit less class is in omega (arith, before)
+      by class false is =
+          let before = room-after edit less class is in
+          let now = room-after edit more class is in
+          omega (arith, before, now, one_less-le (puts_into class edit) (room_among class rows.classes profiles) (room_among class rows.classes profiles') (more_profiles class))
 
 -- with the same rows under two names
 module _ (least tables : Tables) (at_least : HasAtLeast least tables) where
@@ -144,17 +168,17 @@ module _ (least tables : Tables) (at_least : HasAtLeast least tables) where
   profiles-there class = let more = at_least.profiles class in omega (arith, more, ap (λ (r : Rows). room_among class r.classes tables.spare_profiles) same-rows)
 
   abbrev of_rows : Rows → Tables
-  of_rows rows = record { rows = rows; spare_users = tables.spare_users; spare_groups = tables.spare_groups; spare_profiles = tables.spare_profiles }
+  of_rows rows = record { rows = rows; spare_users = tables.spare_users; spare_groups = tables.spare_groups; spare_profiles = tables.spare_profiles; more_classes = tables.more_classes }
 
   pub make-more : (edit : Edit) → CanMake least edit → CanMake tables edit
   make-more edit can =
       subst (λ (r : Rows). CanMake (of_rows r) edit) (sym same-rows)
-      (can-more least.rows least.spare_users tables.spare_users least.spare_groups tables.spare_groups least.spare_profiles tables.spare_profiles at_least.users at_least.groups profiles-there edit can)
+      (can-more least.rows least.spare_users tables.spare_users least.spare_groups tables.spare_groups least.spare_profiles tables.spare_profiles least.more_classes tables.more_classes at_least.users at_least.groups profiles-there at_least.classes edit can)
 
   pub tables_after-more : (edit : Edit) → HasAtLeast (tables_after edit least) (tables_after edit tables)
   tables_after-more edit =
       subst (λ (r : Rows). HasAtLeast (tables_after edit least) (tables_after edit (of_rows r))) (sym same-rows)
-      (after-more least.rows least.spare_users tables.spare_users least.spare_groups tables.spare_groups least.spare_profiles tables.spare_profiles at_least.users at_least.groups profiles-there edit)
+      (after-more least.rows least.spare_users tables.spare_users least.spare_groups tables.spare_groups least.spare_profiles tables.spare_profiles least.more_classes tables.more_classes at_least.users at_least.groups profiles-there at_least.classes edit)
 
 pub apply-more : (least tables : Tables) → HasAtLeast least tables → (edits : List Edit) → CanApply least edits → CanApply tables edits
 apply-more least tables at_least [] can = tt

@@ -9,6 +9,7 @@ tables_of tables = record {
   spare_users = tables.users.spare;
   spare_groups = tables.tree.spare;
   spare_profiles = tables.classes.spare;
+  more_classes = tables.classes.more_classes;
 }
 
 -- What each table keeps is its own; here it is the options that name no more categories than there may be.

@@ -9,12 +9,13 @@ use Rattle.group_tree.specs.Groups.{GroupTree}
 use Rattle.class_profiles.specs.Classes.{ClassList}
 use Rattle.row_tables.specs.UserList.{UserList}
 
--- The rows, and how many users, groups and profiles of each class can be added without memory.
+-- The rows, and how many users, groups, profiles of each class, and classes can be added without memory.
 pub record Tables : Type 0 where
   pub rows : Rows
   pub spare_users : ℕ
   pub spare_groups : ℕ
   pub spare_profiles : List ℕ
+  pub more_classes : ℕ
 
 abbrev pub rows_of : List User → List Group → List ClassRow → Options → Rows
 rows_of users groups classes options = record { users = users; groups = groups; classes = classes; options = options }
@@ -27,4 +28,4 @@ abbrev pub groups_in : Tables → GroupTree
 groups_in tables = record { groups = tables.rows.groups; spare = tables.spare_groups }
 
 abbrev pub classes_in : Tables → ClassList
-classes_in tables = record { classes = tables.rows.classes; spare = tables.spare_profiles }
+classes_in tables = record { classes = tables.rows.classes; spare = tables.spare_profiles; more_classes = tables.more_classes }

@@ -42,6 +42,8 @@ impl RowTables {
             }
             Edit::List(class) => self.classes.set_listed(class, true),
             Edit::Unlist(class) => self.classes.set_listed(class, false),
+            Edit::AddClass(class) => self.classes.add(class),
+            Edit::DropClass(class) => self.classes.drop_class(class),
         }
     }
 }

@@ -17,3 +17,6 @@ pub const MOST_MEMBERS: usize = 1_000;
 
 /// The most categories ever defined.
 pub const MOST_CATEGORIES: usize = 256;
+
+/// The most classes that RDEFINE in class CDT defines.
+pub const MOST_DYNAMIC_CLASSES: usize = 32;

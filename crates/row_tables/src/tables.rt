@@ -142,7 +142,7 @@ impl RowTables {
     }
 
     /// Makes room for the rows that edits add: where one of them puts a user, a group or a profile of a class that
-    /// isn't there, room for as many of these as there are edits.
+    /// isn't there, room for as many of these as there are edits; where one adds a class, room for a class.
     ///
     /// # Errors
     ///
@@ -159,7 +159,7 @@ impl RowTables {
         Ok(())
     }
 
-    /// Makes room for this many rows of the kind that the edit puts. That there is none counts only where it adds one,
+    /// Makes room for this many rows of the kind that the edit puts, or for a class. That there is none counts only where it adds one,
     /// which is looked up only then.
     #[inline(always)]
     fn reserve_for(&mut self, edit: &Edit, more: usize) -> Result<(), NoMemory>
@@ -178,7 +178,7 @@ impl RowTables {
         }
     }
 
-    /// Makes room for this many rows of the kind that the edit puts.
+    /// Makes room for this many rows of the kind that the edit puts, or for the class that it adds.
     #[inline(always)]
     fn reserve_kind(&mut self, edit: &Edit, more: usize) -> Result<(), NoMemory>
         ensures kept { HasAtLeast self.old self.new }
@@ -188,11 +188,12 @@ impl RowTables {
             Edit::PutUser(_) => self.users.reserve(more),
             Edit::PutGroup(_) => reserve_groups(&mut self.tree, more),
             Edit::PutProfile(class, _) => self.classes.reserve(*class, more),
+            Edit::AddClass(_) => self.classes.reserve_class(),
             _ => Ok(()),
         }
     }
 
-    /// Whether the edit puts a row that isn't there.
+    /// Whether the edit puts a row that isn't there, or adds a class.
     #[inline(always)]
     fn adds(&self, edit: &Edit) -> bool
         ensures { result ≡ adds self.now.rows edit.now }
@@ -203,6 +204,7 @@ impl RowTables {
             Edit::PutProfile(class, profile) => {
                 self.classes.profile(*class, &profile.name).is_none()
             }
+            Edit::AddClass(_) => true,
             _ => false,
         }
     }

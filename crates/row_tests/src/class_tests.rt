@@ -243,7 +243,7 @@ fn two_classes(rt: HostRuntime) {
     assert!(rt; is_first_under(&tables, sys1(), b"SYS1.PARMLIB"));
     assert!(rt; is_first_under(&tables, terminals, b""));
     assert!(rt; goes(&mut tables, b"SYS1.PARMLIB") && has(&tables, 2));
-    assert!(rt; class_count(alloc, &mut tables, terminals) == 14);
+    assert!(rt; class_count(alloc, &mut tables, terminals) == 15);
 }
 
 /// The profiles of a table are lawful. It does nothing: its contract is what it is for.

@@ -62,7 +62,7 @@ fn new_database(rt: HostRuntime) {
     };
     assert!(rt; has_first_user(alloc, &rows));
     assert!(rt; rows.group(sys1()).is_some() && rows.group(ibmuser()).is_none());
-    assert!(rt; rows.classes.items.len() == 14);
+    assert!(rt; rows.classes.items.len() == 15);
     assert!(rt; copies_options(alloc, &mut rows.options));
 }
 

@@ -62,5 +62,5 @@ fn memory_is_not_wanted(rt: HostRuntime) {
         panic!(rt; "no memory")
     };
     assert!(rt; reserves(alloc, &mut tables));
-    assert!(rt; counts(alloc, &tables) == Some([1, 1, 14]));
+    assert!(rt; counts(alloc, &tables) == Some([1, 1, 15]));
 }

@@ -1,20 +1,18 @@
 -- Classes without profiles, filled one behind another.
-use Rattle.std.proofs.Common.{◌≡◌, ℕ, ◌+◌, ◌≤◌, Bool, true, false, cond, not, ◌&&◌, List, [], ◌∷◌, ◌++◌, map, length, Some, bytes_eq, refl, sym, ap, subst, ◌∙◌, arith}
+use Rattle.std.proofs.Common.{◌≡◌, ℕ, ◌+◌, ◌≤◌, true, false, cond, List, [], ◌∷◌, ◌++◌, map, length, Some, bytes_eq, refl, sym, ap, subst, ◌∙◌, arith}
 use Rattle.std.specs.Prelude.{IsSomeAnd}
 use Rattle.std.specs.List.{find, AllByRecursion, IsDistinct, sum_by}
-use Rattle.std.proofs.lemmas.Map.Keys.{IsDistinct-head, IsDistinct-tail, IsDistinct-cons}
-use Rattle.std.proofs.lemmas.Bool.{and_parts, not-true}
+use Rattle.std.proofs.lemmas.Map.Keys.{IsDistinct-head, IsDistinct-tail}
 use Rattle.std.proofs.lemmas.List.Sums.{sum_by-append, sum_by-cons}
 use Rattle.racf_profiles.specs.declared.class_rows.ClassRow.{ClassRow}
-use Rattle.racf_profiles.specs.ClassTable.{class_name, fixed_classes, is_dataset}
-use Rattle.racf_profiles.specs.NewDatabase.{new_classes}
 use Rattle.racf_profiles.specs.Lookup.{is_class}
 use Rattle.racf_profiles.specs.Counts.{profile_count, entry_count, entries_in}
 use Rattle.racf_profiles.specs.Edits.{at_class}
 use Rattle.racf_profiles.specs.LawfulProfiles.{AreClasses, AreProfiles, kind_in}
 use Rattle.racf_profiles.specs.Limits.{most_profiles, most_entries_in_all}
 use Rattle.group_tree.proofs.Rows.{itself}
-use Rattle.stored_database.specs.Filling.{HasNoProfiles}
+use Rattle.stored_database.specs.Filling.{HasNoProfiles, empty_like}
+use Rattle.stored_database.proofs.EmptyTables.{empty-names, no-profiles, no-profile_count, no-entry_count}
 use Rattle.stored_database.proofs.Front.{among, of_next}
 
 abbrev name_of : ClassRow → List ℕ
@@ -80,70 +78,35 @@ module _ (weight : ClassRow → ℕ) where
   next-weighs all front c rest new most none split few =
       omega (arith, filled-weighs front new none, ap (sum_by weight) split, sum_by-append weight front (c ∷ rest), sum_by-cons weight c rest, few)
 
--- ---- the fixed classes
--- no name but once, as a test
-abbrev differs : List ℕ → List (List ℕ) → Bool
-differs name [] = true
-differs name (other ∷ names) = not (bytes_eq name other) && differs name names
-
-abbrev all_differ : List (List ℕ) → Bool
-all_differ [] = true
-all_differ (name ∷ names) = differs name names && all_differ names
-
-apart-from : (name : List ℕ) (names : List (List ℕ)) → differs name names ≡ true → AllByRecursion (λ other. bytes_eq name other ≡ false) names
-apart-from name [] h = tt
-apart-from name (other ∷ names) h = let parts = and_parts (not (bytes_eq name other)) (differs name names) h in (not-true (bytes_eq name other) parts.0, apart-from name names parts.1)
-
-none-distinct : IsDistinct bytes_eq []
-unfolding IsDistinct
-none-distinct = tt
-
-distinct-from : (names : List (List ℕ)) → all_differ names ≡ true → IsDistinct bytes_eq names
-distinct-from [] h = none-distinct
-distinct-from (name ∷ names) h =
-    let parts = and_parts (differs name names) (all_differ names) h in IsDistinct-cons bytes_eq name names (apart-from name names parts.0) (distinct-from names parts.1)
-
-names-distinct : IsDistinct bytes_eq (map class_name fixed_classes)
-names-distinct = distinct-from (map class_name fixed_classes) refl
-
-no-profiles : AllByRecursion (λ (r : ClassRow). r.profiles ≡ []) (new_classes is_dataset)
-no-profiles = (refl, (refl, (refl, (refl, (refl, (refl, (refl, (refl, (refl, (refl, (refl, (refl, (refl, (refl, tt))))))))))))))
-
-no-profile_count : AllByRecursion (λ (r : ClassRow). length r.profiles ≡ 0) (new_classes is_dataset)
-no-profile_count = (refl, (refl, (refl, (refl, (refl, (refl, (refl, (refl, (refl, (refl, (refl, (refl, (refl, (refl, tt))))))))))))))
-
-no-entry_count : AllByRecursion (λ (r : ClassRow). sum_by entries_in r.profiles ≡ 0) (new_classes is_dataset)
-no-entry_count = (refl, (refl, (refl, (refl, (refl, (refl, (refl, (refl, (refl, (refl, (refl, (refl, (refl, (refl, tt))))))))))))))
-
 -- the classes that are filled are the front of all, and the next
 module _ (all : List ClassRow) (lawful : AreClasses all) (front items : List ClassRow) (c : ClassRow) (rest : List ClassRow) (is : items ≡ c ∷ rest) (whole : front ++ items ≡ all)
-    (classes : List ClassRow) (so_far : classes ≡ filled front (new_classes is_dataset)) where
+    (classes : List ClassRow) (so_far : classes ≡ filled front (empty_like all)) where
   split : front ++ c ∷ rest ≡ all
   split = sym (ap (λ cs. front ++ cs) is) ∙ whole
 
-  named : map name_of (front ++ c ∷ rest) ≡ map class_name fixed_classes
-  named = ap (map name_of) split ∙ lawful.fixed
+  named : map name_of (front ++ c ∷ rest) ≡ map name_of (empty_like all)
+  named = ap (map name_of) split ∙ empty-names all lawful.names
 
   distinct : IsDistinct bytes_eq (map name_of (front ++ c ∷ rest))
-  distinct = subst (IsDistinct bytes_eq) (sym named) names-distinct
+  distinct = subst (λ (rows : List ClassRow). IsDistinct bytes_eq (map name_of rows)) (sym split) lawful.names.distinct
 
   pub empty : HasNoProfiles c.name classes
-  empty = subst (HasNoProfiles c.name) (sym so_far) (next-empty c rest front (new_classes is_dataset) named distinct no-profiles)
+  empty = subst (HasNoProfiles c.name) (sym so_far) (next-empty c rest front (empty_like all) named distinct (no-profiles all))
 
   pub profiles : AreProfiles (kind_in c.name) c.profiles
   profiles = of_next (λ (r : ClassRow). AreProfiles (kind_in r.name) r.profiles) front c rest (subst (AllByRecursion (λ (r : ClassRow). AreProfiles (kind_in r.name) r.profiles)) (sym split) lawful.lawful)
 
   pub few_profiles : profile_count all ≤ most_profiles → profile_count classes + length c.profiles ≤ most_profiles
   few_profiles few =
-      omega (arith, ap profile_count so_far, next-weighs (λ (r : ClassRow). length r.profiles) all front c rest (new_classes is_dataset) most_profiles no-profile_count split few)
+      omega (arith, ap profile_count so_far, next-weighs (λ (r : ClassRow). length r.profiles) all front c rest (empty_like all) most_profiles (no-profile_count all) split few)
 
   pub few_entries : entry_count all ≤ most_entries_in_all → entry_count classes + sum_by entries_in c.profiles ≤ most_entries_in_all
   few_entries few =
-      omega (arith, ap entry_count so_far, next-weighs (λ (r : ClassRow). sum_by entries_in r.profiles) all front c rest (new_classes is_dataset) most_entries_in_all no-entry_count split few)
+      omega (arith, ap entry_count so_far, next-weighs (λ (r : ClassRow). sum_by entries_in r.profiles) all front c rest (empty_like all) most_entries_in_all (no-entry_count all) split few)
 
-  pub so_far-next : (now : List ClassRow) → now ≡ at_class c.name (λ r. c) classes → now ≡ filled (front ++ c ∷ []) (new_classes is_dataset)
-  so_far-next now put = put ∙ ap (at_class c.name (λ r. c)) so_far ∙ next-filled c rest front (new_classes is_dataset) named distinct
+  pub so_far-next : (now : List ClassRow) → now ≡ at_class c.name (λ r. c) classes → now ≡ filled (front ++ c ∷ []) (empty_like all)
+  so_far-next now put = put ∙ ap (at_class c.name (λ r. c)) so_far ∙ next-filled c rest front (empty_like all) named distinct
 
 -- in the end
-pub all-are : (all front : List ClassRow) → AreClasses all → front ≡ all → (classes : List ClassRow) → classes ≡ filled front (new_classes is_dataset) → classes ≡ all
-all-are all front lawful is classes so_far = so_far ∙ ap (λ cs. filled cs (new_classes is_dataset)) is ∙ all-filled all (new_classes is_dataset) lawful.fixed
+pub all-are : (all front : List ClassRow) → AreClasses all → front ≡ all → (classes : List ClassRow) → classes ≡ filled front (empty_like all) → classes ≡ all
+all-are all front lawful is classes so_far = so_far ∙ ap (λ cs. filled cs (empty_like all)) is ∙ all-filled all (empty_like all) (empty-names all lawful.names)

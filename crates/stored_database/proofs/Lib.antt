@@ -2,4 +2,5 @@ mod WorkedRows
 mod Front
 mod Users
 mod Profiles
+mod EmptyTables
 mod Classes

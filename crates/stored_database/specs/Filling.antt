@@ -1,14 +1,22 @@
 -- Classes without profiles that are filled with those of rows.
-use Rattle.std.specs.Prelude.{◌≡◌, ℕ, ◌+◌, ◌<◌, ◌≤◌, true, List, [], ◌∷◌, ◌++◌, length, IsSomeAnd}
+use Rattle.std.specs.Prelude.{◌≡◌, ℕ, ◌+◌, ◌<◌, ◌≤◌, true, List, [], ◌∷◌, ◌++◌, length, map, drop, IsSomeAnd}
 use Rattle.std.specs.List.{find, AllByRecursion}
 use Rattle.generic_names.specs.Before.{before}
 use Rattle.racf_profiles.specs.declared.profiles.Profile.{Profile}
 use Rattle.racf_profiles.specs.declared.class_rows.ClassRow.{ClassRow}
 use Rattle.racf_profiles.specs.Counts.{profile_count, entry_count, entries_in}
+use Rattle.racf_profiles.specs.ClassTable.{fixed_classes, is_dataset}
+use Rattle.racf_profiles.specs.NewDatabase.{new_classes}
+use Rattle.racf_profiles.specs.Edits.{added_class}
 use Rattle.racf_profiles.specs.Limits.{most_class_profiles, most_profiles, most_entries_in_all}
 use Rattle.racf_profiles.specs.LawfulProfiles.{kind_in}
 use Rattle.racf_profiles.specs.Lookup.{is_class}
 use Rattle.class_profiles.specs.Classes.{ClassList, room_in}
+
+-- Classes of these rows' names, without profiles: the fixed ones as in a new database, and behind them the dynamic ones,
+-- as they are added.
+abbrev pub empty_like : List ClassRow → List ClassRow
+empty_like rows = new_classes is_dataset ++ map (λ (row : ClassRow). added_class row.name) (drop (length fixed_classes) rows)
 
 -- The class of that name is there, and has no profiles.
 abbrev pub HasNoProfiles : (name : List ℕ) → List ClassRow → Type 0

@@ -3,15 +3,15 @@ ghost use Rattle.std.specs.Prelude.{◌≡◌, ◌+◌, ◌≤◌, IfOk, OnOk, l
 ghost use Rattle.std.specs.List.{sum_by};
 ghost use Rattle.racf_profiles.specs.Counts.{profile_count, entry_count, entries_in};
 ghost use Rattle.racf_profiles.specs.Edits.{at_class};
-ghost use Rattle.racf_profiles.specs.LawfulProfiles.{AreClasses, AreProfiles, kind_in};
+ghost use Rattle.racf_profiles.specs.LawfulProfiles.{AreClassNames, AreClasses, AreProfiles, kind_in, names_of};
 ghost use Rattle.racf_profiles.specs.Limits.{most_profiles, most_entries_in_all};
 ghost use Rattle.class_profiles.specs.Classes.{room_in};
-ghost use Rattle.stored_database.specs.Filling.{HasNoProfiles, CanComeLast, with_last, with_profiles, with_all_flags};
+ghost use Rattle.stored_database.specs.Filling.{HasNoProfiles, CanComeLast, empty_like, with_last, with_profiles, with_all_flags};
 
 use access_levels::Id;
 use class_profiles::{ClassTables, laws};
 use generic_names::laws::order_is_total;
-use racf_profiles::{ClassRow, NoMemory, Profile, Profiles};
+use racf_profiles::{ClassRow, FixedClass, NoMemory, Profile, Profiles};
 use std::alloc::Global;
 
 /// The tables of these classes.
@@ -21,9 +21,24 @@ pub(crate) fn classes_of(alloc: Global, classes: Vec<ClassRow>) -> Result<ClassT
     requires few_entries { entry_count classes.items ≤ most_entries_in_all }
     ensures { IfOk result (λ tables. tables.classes ≡ classes.items) }
 {
-    let mut tables = ClassTables::new(alloc)?;
+    let mut tables = empty_tables(alloc, classes.as_slice())?;
     for class in classes {
         put_class(&mut tables, class)?;
+    }
+    Ok(tables)
+}
+
+/// The tables of classes of these names, without profiles: the fixed ones as in a new database, and behind them the
+/// dynamic ones.
+fn empty_tables(alloc: Global, classes: &[ClassRow]) -> Result<ClassTables, NoMemory>
+    requires { AreClassNames (names_of classes.now) }
+    ensures { IfOk result (λ tables. tables.classes ≡ empty_like classes.now) }
+{
+    let mut tables = ClassTables::new(alloc)?;
+    let dynamic = &classes[FixedClass::ALL.len()..];
+    for class in dynamic {
+        tables.reserve_class()?;
+        tables.add(class.name);
     }
     Ok(tables)
 }

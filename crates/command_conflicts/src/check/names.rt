@@ -169,7 +169,7 @@ pub(super) fn is_taken(tables: &RowTables, id: Id) -> bool
 }
 
 /// Whether CLAUTH takes the name.
-fn is_class_word(tables: &RowTables, name: Id) -> bool
+pub(super) fn is_class_word(tables: &RowTables, name: Id) -> bool
     ensures { result ≡ is_class_word tables.now.rows name }
 {
     is_user_word(name) || has_class(tables, name)

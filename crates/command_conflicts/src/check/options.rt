@@ -12,7 +12,7 @@ use super::profiles::has_generic;
 use access_levels::Id;
 use command_fields::{Ids, LogClause, SetRopts};
 use command_rules::{Conflict, dataset};
-use racf_profiles::class_facts;
+use racf_profiles::facts_in;
 use row_tables::RowTables;
 
 /// Each class is in the table.
@@ -61,10 +61,14 @@ fn first_absent(tables: &RowTables, classes: &[Id]) -> Option<Id>
 
 /// Each class has generic profiles.
 #[tactic(auto, unfolding(command_rules::specs::OptionConflicts::class_without_generic))]
-pub(super) fn check_generic_classes(classes: &Ids) -> Result<(), Conflict>
-    ensures { result_err result ≡ class_without_generic classes.now }
+pub(super) fn check_generic_classes(tables: &RowTables, classes: &Ids) -> Result<(), Conflict>
+    ensures { result_err result ≡ class_without_generic classes.now tables.now.rows }
 {
-    match classes.items.iter().find(|class| !has_generic(**class)) {
+    match classes
+        .items
+        .iter()
+        .find(|class| !has_generic(tables, **class))
+    {
         Some(class) => Err(Conflict::NotGeneric(*class)),
         None => Ok(()),
     }
@@ -109,10 +113,14 @@ pub(super) fn check_not_always_active(classes: &Ids) -> Result<(), Conflict>
 
 /// Each class may be RACLISTed.
 #[tactic(auto, unfolding(command_rules::specs::OptionConflicts::never_listed_class))]
-fn check_may_be_listed(classes: &Ids) -> Result<(), Conflict>
-    ensures { result_err result ≡ never_listed_class classes.now }
+fn check_may_be_listed(tables: &RowTables, classes: &Ids) -> Result<(), Conflict>
+    ensures { result_err result ≡ never_listed_class classes.now tables.now.rows }
 {
-    match classes.items.iter().find(|class| !may_be_listed(**class)) {
+    match classes
+        .items
+        .iter()
+        .find(|class| !may_be_listed(tables, **class))
+    {
         Some(class) => Err(Conflict::ClassFixed(*class)),
         None => Ok(()),
     }
@@ -120,13 +128,13 @@ fn check_may_be_listed(classes: &Ids) -> Result<(), Conflict>
 
 /// Each class of RACLIST without REFRESH may be RACLISTed.
 #[tactic(auto, unfolding(command_rules::specs::OptionConflicts::never_listed_class))]
-pub(super) fn check_listed_anew(command: &SetRopts) -> Result<(), Conflict>
-    ensures { result_err result ≡ never_listed_class (listed_anew command.now) }
+pub(super) fn check_listed_anew(tables: &RowTables, command: &SetRopts) -> Result<(), Conflict>
+    ensures { result_err result ≡ never_listed_class (listed_anew command.now) tables.now.rows }
 {
     if command.refresh {
         return Ok(());
     }
-    check_may_be_listed(&command.raclist)
+    check_may_be_listed(tables, &command.raclist)
 }
 
 /// Whether the class is RACLISTed.
@@ -139,11 +147,11 @@ fn is_listed(tables: &RowTables, class: Id) -> bool
     }
 }
 
-/// Whether the class table lets the class be RACLISTed.
-fn may_be_listed(class: Id) -> bool
-    ensures { result ≡ may_be_listed class }
+/// Whether the class may be RACLISTed.
+fn may_be_listed(tables: &RowTables, class: Id) -> bool
+    ensures { result ≡ may_be_listed class tables.now.rows }
 {
-    match class_facts(class) {
+    match facts_in(tables, class) {
         Some(facts) => facts.raclist,
         None => false,
     }

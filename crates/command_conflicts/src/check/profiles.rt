@@ -17,7 +17,7 @@ use access_levels::Id;
 use class_profiles::{MOST_CLASS_PROFILES, MOST_PROFILES};
 use command_rules::{Conflict, Limit, Named, dataset};
 use generic_names::{Pattern, first_qualifier};
-use racf_profiles::{FixedClass, Profile, View, class_facts};
+use racf_profiles::{FixedClass, Profile, View, facts_in};
 use row_tables::RowTables;
 
 /// The first qualifier of a data set profile is a user or a group.
@@ -166,20 +166,20 @@ fn profiles_in(tables: &RowTables, class: Id) -> usize
 
 /// A generic name stands only in a class that has generic profiles.
 #[tactic(auto, unfolding(command_rules::specs::ProfileConflicts::not_generic))]
-pub(super) fn check_generic(class: Id, name: &Pattern) -> Result<(), Conflict>
-    ensures { result_err result ≡ not_generic class name.now }
+pub(super) fn check_generic(tables: &RowTables, class: Id, name: &Pattern) -> Result<(), Conflict>
+    ensures { result_err result ≡ not_generic class name.now tables.now.rows }
 {
-    if name.is_generic() && !has_generic(class) {
+    if name.is_generic() && !has_generic(tables, class) {
         return Err(Conflict::NotGeneric(class));
     }
     Ok(())
 }
 
 /// Whether the class has generic profiles.
-pub(super) fn has_generic(class: Id) -> bool
-    ensures { result ≡ has_generic class }
+pub(super) fn has_generic(tables: &RowTables, class: Id) -> bool
+    ensures { result ≡ has_generic class tables.now.rows }
 {
-    match class_facts(class) {
+    match facts_in(tables, class) {
         Some(facts) => facts.generic,
         None => false,
     }

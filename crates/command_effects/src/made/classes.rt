@@ -1,9 +1,10 @@
 //! Lists of classes.
 ghost use Rattle.std.specs.Prelude.{◌≡◌, fold, IfOk, OnOk};
 ghost use Rattle.command_rules.specs.Effects.{with_class, without_classes};
+ghost use Rattle.command_rules.specs.ProfileEffects.{has_clauth};
 
 use access_levels::Id;
-use racf_profiles::{Classes, NoMemory};
+use racf_profiles::{Classes, NoMemory, User};
 use std::alloc::Global;
 
 /// The classes with those of CLAUTH behind them, each once, and then without those of NOCLAUTH.
@@ -43,8 +44,19 @@ pub(super) fn add_class(classes: &mut Vec<Id>, name: Id) -> Result<(), NoMemory>
     Ok(())
 }
 
+/// Whether the user has the class in his CLAUTH list.
+pub(crate) fn has_clauth(user: &User, class: Id) -> bool
+    ensures { result ≡ has_clauth class user.now }
+{
+    user.classes.items.iter().any(|other| *other == class)
+}
+
 /// The classes without those that go.
-fn without_classes(alloc: Global, classes: &[Id], gone: &[Id]) -> Result<Vec<Id>, NoMemory>
+pub(super) fn without_classes(
+    alloc: Global,
+    classes: &[Id],
+    gone: &[Id],
+) -> Result<Vec<Id>, NoMemory>
     ensures { IfOk result (λ left. left.items ≡ without_classes gone.now classes.now) }
 {
     classes

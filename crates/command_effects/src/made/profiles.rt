@@ -78,7 +78,7 @@ pub(crate) fn altered_resource(
 }
 
 /// The profile that a command defines, before its operands change it.
-fn first_profile(alloc: Global, name: Pattern, owner: Id) -> Profile
+pub(super) fn first_profile(alloc: Global, name: Pattern, owner: Id) -> Profile
     ensures { result ≡ first_profile name owner }
 {
     Profile {

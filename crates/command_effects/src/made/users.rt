@@ -1,8 +1,9 @@
 //! Users as a command makes them.
 ghost use Rattle.std.specs.Prelude.{◌≡◌, unwrap_or, IfOk};
 ghost use Rattle.command_rules.specs.Effects.{new_user, first_attributes, altered_user, connected_user, removed_user};
+ghost use Rattle.command_rules.specs.ProfileEffects.{without_clauth};
 
-use super::classes::{classes_after, with_classes};
+use super::classes::{classes_after, with_classes, without_classes};
 use super::connects::{connects_after, first_connects, without_connect};
 use super::security::{label_given, level_given, with_categories, without_categories};
 use access_levels::{Attributes, Categories, Id, Text};
@@ -101,6 +102,17 @@ pub(crate) fn removed_user(
     let group = issuer.group_or_current(command.group);
     let items = without_connect(alloc, group, old.connects.items.as_slice())?;
     with_connects(alloc, old, Connects { items })
+}
+
+/// A user without a class in his CLAUTH list.
+pub(crate) fn without_clauth(alloc: Global, user: User, class: Id) -> Result<User, NoMemory>
+    ensures { IfOk result (λ after. after ≡ without_clauth class user) }
+{
+    let items = without_classes(alloc, user.classes.items.as_slice(), &[class])?;
+    Ok(User {
+        classes: Classes { items },
+        ..user
+    })
 }
 
 /// A user with other connections.

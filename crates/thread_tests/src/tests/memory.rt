@@ -125,15 +125,15 @@ fn has_the_greatest(ran: &InMemory) -> bool {
 }
 
 /// Whether the first disk is handed back with a record of each command that was accepted, and with none of another but
-/// that which it failed, and the second as it was; the files of a new database have 347 and 9 bytes, and each of these
+/// that which it failed, and the second as it was; the files of a new database have 361 and 9 bytes, and each of these
 /// records 30.
 fn has_records(ran: &InMemory) -> bool {
     let accepted = ran.accepted.len();
     let failed = ran.doubt.is_some();
     let records = match ran.disks.first.bytes().len() {
-        347 => 0,
-        377 => 1,
-        407 => 2,
+        361 => 0,
+        391 => 1,
+        421 => 2,
         _ => return false,
     };
     ran.disks.second.bytes().len() == 9

@@ -27,4 +27,4 @@ pub returns-clause-held : goal.returns-clause-held
 returns-clause-held c formatted opened =
     let bytes : AreBytes c.args.bytes.now = λ i. omega (arith, c.type_inv.bytes i) in
     let head = c.in_ok-head.head in
-    held c.args.bytes.now head c.in_ok-rows.rows c.in_ok-found.found.records.items c.in_ok-found.found.gate bytes formatted opened c.in_ok-head.ensures.some c.in_ok-head.ensures.epoch c.in_ok-head.ensures.number c.in_ok-head.ensures.size c.in_ok-head.ensures.within c.in_ok-rows.ensures.found c.in_ok-found.ensures.walked c.in_ok-head.ensures.short c.in_ok-found.ensures.room
+    held c.args.bytes.now head c.in_ok-rows.rows c.in_ok-found.found.records.items c.in_ok-found.found.gate bytes formatted opened c.in_ok-head.ensures.some c.in_ok-head.ensures.epoch c.in_ok-head.ensures.number c.in_ok-head.ensures.size c.in_ok-head.ensures.within c.in_ok-rows.ensures.found c.in_ok-rows.ensures.read c.in_ok-found.ensures.walked c.in_ok-head.ensures.short c.in_ok-found.ensures.room

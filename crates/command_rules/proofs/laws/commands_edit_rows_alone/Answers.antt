@@ -6,4 +6,4 @@ pub returns-clause-listed : goal.returns-clause-listed
 returns-clause-listed c = λ issuer command rows other. edits-others issuer command rows other
 
 pub returns-clause-classes : goal.returns-clause-classes
-returns-clause-classes c = λ issuer command rows lawful after. edits-classes rows lawful issuer command after
+returns-clause-classes c = λ issuer command rows lawful after. edits-classes c.order_is_total.ensures.passed_on rows lawful issuer command after

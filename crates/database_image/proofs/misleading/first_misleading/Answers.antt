@@ -1,7 +1,7 @@
 use Rattle.std.proofs.Common.{rules, ◌≡◌, ℕ, ◌+◌, ◌*◌, List, [], ◌∷◌, ◌++◌, length, ap, ◌∙◌, append_assoc, arith}
 use Rattle.std.specs.List.{sum_by}
 use Rattle.database_image.specs.Facts.{Fact, told, told_of_each, first_broken, user_width, class_width, users_place}
-use Rattle.database_image.specs.Misleading.{has_room, user_marks, class_marks}
+use Rattle.database_image.specs.Misleading.{has_room, tells_classes, user_marks, class_marks}
 use Rattle.database_image.proofs.Told.{or-append}
 use Rattle.database_image.proofs.misleading.first_misleading.Goals as goal
 
@@ -12,7 +12,7 @@ returns c =
     let groups : List Fact = told (3 + 8 * length rows.options.categories) (has_room 4 (length rows.groups)) ∷ [] in
     let users : List Fact = told (users_place rows) (has_room 4 (length rows.users)) ∷ [] in
     let each_user : List Fact = told_of_each user_width user_marks (users_place rows + 4) rows.users in
-    let classes : List Fact = told (users_place rows + 4 + sum_by user_width rows.users) (has_room 2 (length rows.classes)) ∷ [] in
+    let classes : List Fact = told (users_place rows + 4 + sum_by user_width rows.users) (tells_classes (length rows.classes)) ∷ [] in
     let each_class : List Fact = told_of_each class_width class_marks (users_place rows + 6 + sum_by user_width rows.users) rows.classes in
     let place : 7 + 8 * c.len-categories.result + 24 * c.len-groups.result ≡ users_place rows = search rules in
     let one : c.unless.result ≡ first_broken categories = search rules in

@@ -1,8 +1,14 @@
 use Rattle.std.proofs.Common.{arith, sym, subst}
 use Rattle.database_image.specs.Reading.{AreBytes}
 use Rattle.database_image.specs.Image.{Reads}
-use Rattle.database_image.proofs.Images.{behind-first, first-refused, found_in}
+use Rattle.database_image.proofs.Images.{read-width, behind-first, first-refused, found_in}
 use Rattle.database_image.proofs.reading.read.Goals as goal
+
+pub unless_broken-requires : goal.unless_broken-requires
+unless_broken-requires c =
+    let bytes : AreBytes c.args.bytes.now = λ i. omega (arith, c.type_inv.bytes i) in
+    let width = read-width c.args.bytes.now c.in-Ok.rows bytes c.in-Ok.ensures.exact in
+    record { fields = c.in-Ok.ensures.found.0; room = omega (arith, width) }
 
 pub returns-in-Ok : goal.returns-in-Ok
 returns-in-Ok c =

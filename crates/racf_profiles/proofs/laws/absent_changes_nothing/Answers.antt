@@ -7,7 +7,7 @@ use Rattle.racf_profiles.specs.State.{State, ListedCopy, is_copy_of, copy_of_cla
 use Rattle.racf_profiles.specs.declared.users.User.{User}
 use Rattle.racf_profiles.specs.declared.groups.Group.{Group}
 use Rattle.racf_profiles.specs.declared.class_rows.ClassRow.{ClassRow}
-use Rattle.racf_profiles.proofs.EditLaws.{drop_row-absent, at_class-absent, at_class-without_absent}
+use Rattle.racf_profiles.proofs.EditLaws.{drop_row-absent, at_class-absent, at_class-without_absent, without_class-absent}
 use Rattle.racf_profiles.proofs.laws.absent_changes_nothing.Goals as goal
 
 pub returns-clause-user : goal.returns-clause-user
@@ -38,4 +38,8 @@ returns-clause-list c = λ class state absent. same_state state _ _ (at_class-ab
 
 pub returns-clause-unlist : goal.returns-clause-unlist
 returns-clause-unlist c = λ class state absent. same_state state _ _ (at_class-absent class (with_listed false) state.rows.classes absent)
+    (ap (λ o. option_map_or (λ (row : ClassRow). drop_row (is_copy_of class) state.copies) o state.copies) absent)
+
+pub returns-clause-drop_class : goal.returns-clause-drop_class
+returns-clause-drop_class c = λ class state absent. same_state state _ _ (without_class-absent class state.rows.classes absent)
     (ap (λ o. option_map_or (λ (row : ClassRow). drop_row (is_copy_of class) state.copies) o state.copies) absent)

@@ -1,5 +1,5 @@
 -- One profile more than before, at most.
-use Rattle.std.proofs.Common.{◌∙◌, ap, arith, length}
+use Rattle.std.proofs.Common.{◌∙◌, ap, arith}
 use Rattle.generic_names.specs.Spelled.{Spelled}
 use Rattle.row_tests.proofs.class_tests.with_name.Goals as goal
 

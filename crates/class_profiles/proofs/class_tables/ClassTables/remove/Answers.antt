@@ -6,7 +6,7 @@ use Rattle.racf_profiles.specs.declared.profiles.Profile.{Profile}
 use Rattle.racf_profiles.specs.declared.class_rows.ClassRow.{ClassRow}
 use Rattle.racf_profiles.specs.Lookup.{is_class}
 use Rattle.racf_profiles.specs.Edits.{at_class, without_profile}
-use Rattle.class_profiles.specs.Classes.{ClassList, profile_in, room_in}
+use Rattle.class_profiles.specs.Classes.{ClassList, profile_in, room_in, room_among}
 use Rattle.racf_profiles.specs.Counts.{profile_count, entries_in}
 use Rattle.racf_profiles.proofs.EditLaws.{at_class-absent}
 use Rattle.class_profiles.specs.Summed.{rows_in}
@@ -61,5 +61,5 @@ returns-clause-kept c =
     let old = c.index_mut.result.now in
     let at = placed class items c.deref.result.now k c.deref.ensures.value c.in-Some.ensures in
     let got = read-at class items k old at c.index_mut.ensures.value in
-    λ other. subst (λ (v : ClassList). room_in other v ≤ room_in other (record { classes = rows_in (set items k c.remove.new.self); spare = spares (set items k c.remove.new.self) })) c.self.view_is
+    λ other. subst (λ (v : ClassList). room_in other v ≤ room_among other (rows_in (set items k c.remove.new.self)) (spares (set items k c.remove.new.self))) c.self.view_is
     (room-kept other items k old c.remove.new.self got (ap (λ (r : ClassRow). r.name) c.remove.ensures.row) c.remove.ensures.spare)

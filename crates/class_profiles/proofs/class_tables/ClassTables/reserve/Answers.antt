@@ -4,7 +4,7 @@ use Rattle.std.specs.List.{find}
 use Rattle.racf_profiles.specs.declared.class_rows.ClassRow.{ClassRow}
 use Rattle.racf_profiles.specs.Lookup.{is_class}
 use Rattle.racf_profiles.specs.LawfulProfiles.{AreClasses}
-use Rattle.class_profiles.specs.Classes.{ClassList, room_in}
+use Rattle.class_profiles.specs.Classes.{ClassList, room_in, room_among}
 use Rattle.racf_profiles.specs.Counts.{profile_count, entry_count}
 use Rattle.class_profiles.specs.Summed.{rows_in}
 use Rattle.class_profiles.proofs.Places.{spares, placed, unplaced, read-at, rows-kept, room-set, room-kept, on_ok, none-some}
@@ -44,7 +44,7 @@ returns-in-Some-clause-kept c =
     let items = c.self.inside.classes.items in
     let at = placed c.args.class items c.deref.result.now c.in-Some.place c.deref.ensures.value c.in-Some.ensures in
     let got = read-at c.args.class items c.in-Some.place c.index_mut.result.now at c.index_mut.ensures.value in
-    λ other. subst (λ (v : ClassList). room_in other v ≤ room_in other (record { classes = rows_in (set items c.in-Some.place c.reserve.new.self); spare = spares (set items c.in-Some.place c.reserve.new.self) })) c.self.view_is
+    λ other. subst (λ (v : ClassList). room_in other v ≤ room_among other (rows_in (set items c.in-Some.place c.reserve.new.self)) (spares (set items c.in-Some.place c.reserve.new.self))) c.self.view_is
     (room-kept other items c.in-Some.place c.index_mut.result.now c.reserve.new.self got (ap (λ (r : ClassRow). r.name) c.reserve.ensures.row) c.reserve.ensures.kept)
 
 pub returns-in-None-clause-room : goal.returns-in-None-clause-room

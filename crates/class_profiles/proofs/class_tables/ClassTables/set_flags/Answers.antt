@@ -5,7 +5,7 @@ use Rattle.racf_profiles.specs.declared.class_rows.ClassRow.{ClassRow}
 use Rattle.racf_profiles.specs.Lookup.{is_class}
 use Rattle.racf_profiles.specs.Edits.{at_class, with_flags}
 use Rattle.racf_profiles.proofs.EditLaws.{at_class-absent}
-use Rattle.class_profiles.specs.Classes.{ClassList, room_in}
+use Rattle.class_profiles.specs.Classes.{ClassList, room_in, room_among}
 use Rattle.class_profiles.specs.Summed.{rows_in}
 use Rattle.class_profiles.proofs.Places.{spares, placed, unplaced, read-at, room-kept}
 use Rattle.class_profiles.proofs.Changes.{flag-rows, flag-lawful, flag-counted, flag-entries_counted}
@@ -54,5 +54,5 @@ returns-clause-kept c =
     let at = placed class items c.deref.result.now k c.deref.ensures.value c.in-Some.ensures in
     let got = read-at class items k old at c.index_mut.ensures.value in
     let more : old.spare ≤ c.set_flags.new.self.spare = omega (arith, c.set_flags.ensures.spare) in
-    λ other. subst (λ (v : ClassList). room_in other v ≤ room_in other (record { classes = rows_in (set items k c.set_flags.new.self); spare = spares (set items k c.set_flags.new.self) })) c.self.view_is
+    λ other. subst (λ (v : ClassList). room_in other v ≤ room_among other (rows_in (set items k c.set_flags.new.self)) (spares (set items k c.set_flags.new.self))) c.self.view_is
     (room-kept other items k old c.set_flags.new.self got (ap (λ (r : ClassRow). r.name) c.set_flags.ensures.row) more)

@@ -30,7 +30,7 @@ returns-in-Ok-clause-moments g c =
     let a = c.self.inside in
     let law : RecordsAreRead = record { says = c.records_are_read_behind_an_image.ensures.says; counts = c.records_are_read_behind_an_image.ensures.counts } in
     let kept : CheckpointRead = record { epoch = a.epoch; number = a.number; rows = a.rows.value; start = a.journal.start; records = a.journal.records; gate = a.journal.gate } in
-    rw (← c.self.view_is) (open_stays law kept (g.D.Disk.tells a.journal.disk) (g.D.Disk.tells c.in-Ok.journal.disk) c.self.invariant.holds c.in-Ok.ensures.moments)
+    rw (← c.self.view_is) (open_stays law kept c.self.invariant.lawful.image (g.D.Disk.tells a.journal.disk) (g.D.Disk.tells c.in-Ok.journal.disk) c.self.invariant.holds c.in-Ok.ensures.moments)
 
 pub returns-in-Err-clause-moments : goal.returns-in-Err-clause-moments
 returns-in-Err-clause-moments g c =
@@ -38,4 +38,4 @@ returns-in-Err-clause-moments g c =
     let law : RecordsAreRead = record { says = c.records_are_read_behind_an_image.ensures.says; counts = c.records_are_read_behind_an_image.ensures.counts } in
     let kept : CheckpointRead = record { epoch = a.epoch; number = a.number; rows = a.rows.value; start = a.journal.start; records = a.journal.records; gate = a.journal.gate } in
     rw (← c.self.view_is) (stays_back g.D.Disk.tells (g.D.Disk.tells a.journal.disk) a.side c.in-Err.live a.idle c.in_order.result.first c.in_order.result.second c.in_order.ensures.first c.in_order.ensures.second
-    (open_stays law kept (g.D.Disk.tells a.journal.disk) (g.D.Disk.tells c.in-Err.live) c.self.invariant.holds c.in-Err.ensures.moments))
+    (open_stays law kept c.self.invariant.lawful.image (g.D.Disk.tells a.journal.disk) (g.D.Disk.tells c.in-Err.live) c.self.invariant.holds c.in-Err.ensures.moments))

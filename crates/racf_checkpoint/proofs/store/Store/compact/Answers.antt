@@ -1,12 +1,12 @@
 -- A checkpoint is written on the disk that doesn't count, and counts from then on.
-use Rattle.std.proofs.Common.{ℕ, ◌+◌, ◌<◌, ◌^◌, ◌≡◌, true, List, refl, subst, arith, rules}
+use Rattle.std.proofs.Common.{ℕ, ◌+◌, ◌<◌, ◌^◌, ◌≡◌, true, refl, subst, arith, rules}
 use Rattle.racf_outside.specs.Crashes.{StaysIn}
 use Rattle.checkpoint_disks.specs.Files.{head_is_open}
 use Rattle.checkpoint_disks.specs.Compacting.{new_file, new_checkpoint}
 use Rattle.racf_checkpoint.specs.Contents.{SaysEither}
 use Rattle.racf_checkpoint.specs.Stored.{StoreOn, Beside, other}
 use Rattle.racf_checkpoint.proofs.Compacting.{compact_none, compact_made, ready_passed}
-use Rattle.racf_checkpoint.proofs.New.{new_resting, made_lawful, made_stored}
+use Rattle.racf_checkpoint.proofs.New.{IsReadAgain, new_resting, made_lawful, made_stored}
 use Rattle.racf_checkpoint.proofs.Saying.{RecordsAreRead}
 use Rattle.racf_checkpoint.proofs.Turning.{stays_live, stays_idle}
 use Rattle.racf_checkpoint.proofs.store.Store.compact.Goals as goal
@@ -41,20 +41,24 @@ turn-requires g c =
 
 pub returns-clause-lawful : goal.returns-clause-lawful
 returns-clause-lawful g c =
+    let stored = c.in_ok-start.ensures.stored in
+    let again : IsReadAgain c.args.rows.now = record { stored = stored; image_is = c.images_are_of_rows.ensures.own c.args.rows.now stored; read_as = c.images_are_of_rows.ensures.only c.args.rows.now stored } in
     let above : c.in-Some.epoch ≡ c.self.inside.epoch + 1 = search rules in
     let fits : c.in-Some.epoch < 2 ^ 64 = omega arith in
     rw (← c.self.view_is) (λ below.
-    made_lawful c.self.inside.epoch c.in-Some.epoch c.args.number c.args.rows.now above fits c.in_ok-start.ensures.fits c.requires.number c.in_ok-start.ensures.stored)
+    made_lawful c.self.inside.epoch c.in-Some.epoch c.args.number c.args.rows.now above fits c.in_ok-start.ensures.fits c.requires.number again)
 
 pub returns-clause-done : goal.returns-clause-done
 returns-clause-done g c =
+    let stored = c.in_ok-start.ensures.stored in
+    let again : IsReadAgain c.args.rows.now = record { stored = stored; image_is = c.images_are_of_rows.ensures.own c.args.rows.now stored; read_as = c.images_are_of_rows.ensures.only c.args.rows.now stored } in
     let a = c.self.inside in
     let law : RecordsAreRead = record { says = c.records_are_read_behind_an_image.ensures.says; counts = c.records_are_read_behind_an_image.ensures.counts } in
     let above : c.in-Some.epoch ≡ c.self.inside.epoch + 1 = search rules in
     let fits : c.in-Some.epoch < 2 ^ 64 = omega arith in
     let ready = rw (← c.self.view_is) at c.requires.ready in
     rw (← c.self.view_is, c.turn.ensures) (λ below. record {
-      live = made_stored a.epoch c.in-Some.epoch c.in_ok-start.start c.args.number c.args.rows.now (g.D.Disk.tells c.compact.new.idle) above fits c.in_ok-start.ensures.fits c.requires.number c.in_ok-start.ensures.stored c.in_ok-start.ensures.start c.in_ok-start.ensures.done;
+      live = made_stored a.epoch c.in-Some.epoch c.in_ok-start.start c.args.number c.args.rows.now (g.D.Disk.tells c.compact.new.idle) above fits c.in_ok-start.ensures.fits c.requires.number again c.in_ok-start.ensures.start c.in_ok-start.ensures.done;
       idle = ready_passed law a.side a.epoch a.journal.start a.journal.gate c.in-Some.epoch (g.D.Disk.tells a.journal.disk) above ready.live;
     })
 
@@ -70,13 +74,15 @@ returns-clause-moments g c =
 
 pub returns-clause-ready : goal.returns-clause-ready
 returns-clause-ready g c =
+    let stored = c.in_ok-start.ensures.stored in
+    let again : IsReadAgain c.args.rows.now = record { stored = stored; image_is = c.images_are_of_rows.ensures.own c.args.rows.now stored; read_as = c.images_are_of_rows.ensures.only c.args.rows.now stored } in
     let a = c.self.inside in
     let law : RecordsAreRead = record { says = c.records_are_read_behind_an_image.ensures.says; counts = c.records_are_read_behind_an_image.ensures.counts } in
     let above : c.in-Some.epoch ≡ c.self.inside.epoch + 1 = search rules in
     let fits : c.in-Some.epoch < 2 ^ 64 = omega arith in
     let ready = rw (← c.self.view_is) at c.requires.ready in
     rw c.turn.ensures (record {
-      live = λ h e. (new_checkpoint (a.epoch + 1) c.args.number c.args.rows.now, made_stored a.epoch c.in-Some.epoch c.in_ok-start.start c.args.number c.args.rows.now (g.D.Disk.tells c.compact.new.idle) above fits c.in_ok-start.ensures.fits c.requires.number c.in_ok-start.ensures.stored c.in_ok-start.ensures.start c.in_ok-start.ensures.done h e);
+      live = λ h e. (new_checkpoint (a.epoch + 1) c.args.number c.args.rows.now, made_stored a.epoch c.in-Some.epoch c.in_ok-start.start c.args.number c.args.rows.now (g.D.Disk.tells c.compact.new.idle) above fits c.in_ok-start.ensures.fits c.requires.number again c.in_ok-start.ensures.start c.in_ok-start.ensures.done h e);
       idle = ready_passed law a.side a.epoch a.journal.start a.journal.gate c.in-Some.epoch (g.D.Disk.tells a.journal.disk) above ready.live;
     })
 

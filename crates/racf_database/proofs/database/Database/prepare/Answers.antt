@@ -26,7 +26,7 @@ edits_of-requires c permit is =
     let free : conflict_of issuer c.args.command.now rows ≡ None = ap (λ v. conflict_of issuer c.args.command.now v.rows) c.self.view_is ∙ c.requires in
     let met : conflict_of issuer (command.Permit permit) rows ≡ None =
     subst (λ (fields : CommandFields). conflict_of issuer fields rows ≡ None) (sym c.fields.ensures ∙ is) free in
-    permit-fits order.either puts order.passed_on c.text_reads_back.ensures.pattern issuer permit rows c.self.invariant.lawful met
+    permit-fits order.either puts order.passed_on order.not_both c.text_reads_back.ensures.pattern issuer permit rows c.self.invariant.lawful met
 
 -- the rows are as they were, so what was made of them can be applied, and leaves lawful rows
 pub invariant_of-self-2 : goal.invariant_of-self-2
@@ -48,7 +48,7 @@ invariant_of-self-2 c =
     record {
       lawful = lawful;
       ready = record {
-        can = subst (CanApply tables) (sym made) (can_apply-edits_of order.either puts order.passed_on c.text_reads_back.ensures.pattern tables lawful issuer fields own free room after);
+        can = subst (CanApply tables) (sym made) (can_apply-edits_of order.either puts order.passed_on order.not_both c.text_reads_back.ensures.pattern tables lawful issuer fields own free room after);
         lawful = subst (λ (edits : List Edit). AreLawful (changed edits tables.rows)) (sym made) after;
       };
     }

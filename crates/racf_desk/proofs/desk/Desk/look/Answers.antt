@@ -1,4 +1,4 @@
-use Rattle.std.proofs.Common.{◌≡◌, ℕ, ◌+◌, List, length, Ok, Err, ◌⊎◌, ◌∙◌, ap, subst, sym}
+use Rattle.std.proofs.Common.{◌≡◌, ◌+◌, length, Err, ◌⊎◌, ◌∙◌, ap, subst, sym}
 use Rattle.std.specs.Arc.{arc_value}
 use Rattle.racf_journal.specs.Reading.{spelled}
 use Rattle.checkpoint_disks.specs.Files.{CheckpointRead}

@@ -1,5 +1,5 @@
 -- The class at its place is changed; one that isn't there isn't.
-use Rattle.std.proofs.Common.{◌∙◌, sym}
+use Rattle.std.proofs.Common.{◌∙◌, sym, refl}
 use Rattle.racf_profiles.specs.Edits.{with_profile}
 use Rattle.racf_profiles.specs.declared.class_rows.ClassRow.{ClassRow}
 use Rattle.racf_profiles.specs.LawfulProfiles.{AreProfiles, kind_in}
@@ -14,4 +14,4 @@ with_profile-requires c =
     class-holds c.args.class (with_profile c.args.profile.now) c.args.self.now (λ (class : ClassRow). AreProfiles (kind_in class.name) class.profiles) c.in-Some.place c.at.result.now (sym c.place.ensures ∙ c.in-Some.is) c.at.ensures c.requires.lawful
 
 pub returns-clause-classes : goal.returns-clause-classes
-returns-clause-classes c = class-changed c.args.class (with_profile c.args.profile.now) c.args.self.now c.self.inside.classes.items c.in-Some.place c.at.result.now c.in_ok-made.made.what c.self.view_is (sym c.place.ensures ∙ c.in-Some.is) c.at.ensures c.in_ok-made.ensures.class
+returns-clause-classes c = c.replace.ensures ∙ class-changed c.args.class (with_profile c.args.profile.now) c.args.self.now c.args.self.now c.in-Some.place c.at.result.now c.in_ok-made.made.what refl (sym c.place.ensures ∙ c.in-Some.is) c.at.ensures c.in_ok-made.ensures.class

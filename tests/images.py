@@ -4,7 +4,7 @@ An image at the limits has 20,000 users with ten connections each, 8,000 groups,
 resources, and 1,000,000 entries of access lists.
 """
 CLASSES = ["DATASET", "FACILITY", "TERMINAL", "CONSOLE", "JESINPUT", "APPCPORT", "APPL",
-           "OPERCMDS", "SURROGAT", "TAPEVOL", "DASDVOL", "SECDATA", "SECLABEL", "GLOBAL"]
+           "OPERCMDS", "SURROGAT", "TAPEVOL", "DASDVOL", "SECDATA", "SECLABEL", "GLOBAL", "CDT"]
 # At the limits: users and groups, connections of a user, profiles of each of two classes, and entries of a profile's two lists.
 USERS, GROUPS, CONNECTIONS, PROFILES, ENTRIES, CONDITIONAL = 20_000, 8_000, 10, 50_000, 8, 2
 

@@ -5,7 +5,7 @@
 import itertools
 import re
 
-from commands import ACCESSES, BY_WORD, CLASSES, GAPS, MAY_BE_BARE, PORTS, Unclosed, is_tied, pieces, upper
+from commands import ACCESSES, BY_WORD, CLASS_COMMANDS, CLASSES, GAPS, MAY_BE_BARE, PORTS, Unclosed, is_tied, pieces, upper
 from secret_words import told
 
 # Operands of RACF that aren't here, by the reason why nothing is lost with them.
@@ -125,6 +125,9 @@ def known_classes(words, operand_word, carried, besides=()):
     gone = [word for word in words if word not in (*CLASSES, *besides)]
     if gone:
         carried.note(f"left out: {told(', '.join(gone))} of {operand_word}; there is no such class", True)
+    if operand_word.endswith("RACLIST") and "CDT" in words:
+        gone.append("CDT")
+        carried.note(f"left out: CDT of {operand_word}; a class that it defines is there at once", True)
     return [word for word in words if word not in gone]
 
 
@@ -262,7 +265,7 @@ def profile_name(word, class_name):
         class_of(name)
     elif class_name == "SECDATA":
         spelled(re.compile("SECLEVEL|CATEGORY"), name)
-    elif class_name == "SECLABEL" and not is_generic(name):
+    elif class_name == "CDT" or (class_name == "SECLABEL" and not is_generic(name)):
         spelled(ID, name)
     return f"({name})" if name.endswith("-") else name
 
@@ -429,6 +432,8 @@ def carried(text):
     class_name = class_of(upper(heads[0][0])) if len(heads) == 2 else "DATASET"
     if len(heads) == 2 and class_name == "DATASET":
         raise Unsure(f"{command.name} takes no DATASET")
+    if class_name == "CDT" and command.name in CLASS_COMMANDS:
+        raise Unsure(f"{command.name} has other operands in class CDT here")
     target = (class_name, upper(heads[-1][0])) if heads else None
     forms = operands(command, given, target, result)
     if "CLASS" in forms:

@@ -33,11 +33,16 @@ PERMIT   PE   profile: CLASS(class) RESET(which) ID(id..) ACCESS(access) DELETE 
 SETROPTS SETR : CLASSACT(class..) NOCLASSACT(class..) GRPLIST NOGRPLIST PROTECTALL(FAILURES) NOPROTECTALL MLS(FAILURES) NOMLS
   RACLIST(class..) NORACLIST(class..) GLOBAL(class..) NOGLOBAL(class..) GENERIC(class..) REFRESH LOGOPTIONS(word(class..)..)
 """
+# The commands that have other operands in class CDT, whose profiles define classes.
+IN_CDT = """
+RDEFINE  RDEF class profile: OWNER(id) MAXLENGTH(number) OPERATIONS(YES|NO) NAMES(FULL|ID)
+RALTER   RALT class profile: OWNER(id)
+"""
 # Operands that stand with a value or alone.
 MAY_BE_BARE = ("RESET", "PROTECTALL", "MLS")
 ON_DATA_SETS = ("ADDSD", "ALTDSD", "DELDSD")
 CLASSES = ("DATASET FACILITY TERMINAL CONSOLE JESINPUT APPCPORT APPL OPERCMDS SURROGAT TAPEVOL DASDVOL SECDATA SECLABEL "
-           "GLOBAL").split()
+           "GLOBAL CDT").split()
 ACCESSES = ("NONE", "EXECUTE", "READ", "UPDATE", "CONTROL", "ALTER")
 PORTS = ("TERMINAL", "CONSOLE", "JESINPUT", "APPCPORT")
 GAPS, BLANKS = " \t,", " \t"
@@ -70,7 +75,11 @@ class Command:
         return self.positions[:1] == ["profile"]
 
 
-COMMANDS = {command.name: command for command in map(Command, re.findall(r"^\w.*(?:\n  .*)*", TABLE, re.M))}
+def commands_of(table):
+    return {command.name: command for command in map(Command, re.findall(r"^\w.*(?:\n  .*)*", table, re.M))}
+
+
+COMMANDS, CLASS_COMMANDS = commands_of(TABLE), commands_of(IN_CDT)
 BY_WORD = {word: command for command in COMMANDS.values() for word in (command.name, command.short)}
 
 
@@ -129,6 +138,12 @@ def is_tied(text, end, begin):
 
 
 def command_of(text):
-    """The command that the first word of a text names; None where it names none."""
-    word = re.match(r"[ \t,]*([^ \t,()]*)", text).group(1)
-    return BY_WORD.get(upper(word))
+    """The command that the first word of a text names, in class CDT the one of its own; None where it names none."""
+    command = BY_WORD.get(first_words(text)[0])
+    return CLASS_COMMANDS.get(command.name, command) if command and first_words(text)[1] == "CDT" else command
+
+
+def first_words(text):
+    """The first two words of a text, of which the second may stand in parentheses."""
+    words = re.match(r"[ \t,]*([^ \t,()]*)[ \t,]*(\([ \t,]*[^ \t,()]*[ \t,]*\)|[^ \t,()]*)", text).groups()
+    return [upper(word.strip("() \t,")) for word in words]

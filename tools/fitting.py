@@ -5,7 +5,7 @@ isn't of is of no use, and no fault.
 """
 import re
 
-from commands import CLASSES, COMMANDS, MAY_BE_BARE, ON_DATA_SETS, Unclosed, command_of, pieces, upper
+from commands import CLASSES, COMMANDS, MAY_BE_BARE, ON_DATA_SETS, Unclosed, command_of, first_words, pieces, upper
 
 ID = "1 to 8 bytes of A-Z, 0-9, #, $ and @"
 NAME_OF_DATA_SET = "qualifiers of 1 to 8 bytes joined by periods, 44 bytes in all, each begun by a letter, #, $ or @"
@@ -30,6 +30,9 @@ VALUES = {
     "member..": "name/access in GLOBAL, name/number from 1 to 254 in SECLEVEL, a name in CATEGORY; other profiles have no members",
     "FAILURES": "FAILURES",
     "word(class..)..": "ALWAYS, NEVER, SUCCESSES, FAILURES or DEFAULT, each once at most and with classes in parentheses behind it",
+    "number": "1 to 246, the most bytes that the name of a profile in the class has",
+    "YES|NO": "YES or NO",
+    "FULL|ID": f"FULL, where names are those of general resources, or ID, where each is {ID}",
 }
 # The forms of requests, and of the line that names an issuer.
 FORMS = {
@@ -48,7 +51,8 @@ PLAIN = {
     "UNKNOWNCOMMAND": "a command: " + ", ".join(COMMANDS) + "; or a request: " + REQUEST_WORDS,
 }
 # Names of profiles, in classes that have their own.
-NAMES_IN = {"SECDATA": "SECLEVEL or CATEGORY", "GLOBAL": "the name of a class", "SECLABEL": f"a label, {ID}; or a generic name"}
+NAMES_IN = {"SECDATA": "SECLEVEL or CATEGORY", "GLOBAL": "the name of a class", "SECLABEL": f"a label, {ID}; or a generic name",
+            "CDT": f"the name of a class, {ID}"}
 
 
 # The refusals that are about a line's text.
@@ -129,7 +133,7 @@ def of_command(command, text, words):
     """What would fit in a command's text, by the words behind SYNTAX."""
     fault, *named = words
     if fault == "MISSING":
-        return lacking(command, named[-1])
+        return lacking(command, named[-1], first_words(text)[1])
     if fault == "REPEATED":
         return f"{named[-1]} once"
     if fault == "EXCLUDED":
@@ -142,10 +146,10 @@ def of_command(command, text, words):
     return operands_at(command, text, at, fault == "AMBIGUOUS")
 
 
-def lacking(command, word):
+def lacking(command, word, class_name):
     """What a command lacks: a positional word, or one of the operands that it needs."""
     if word.lower() in command.positions:
-        return f"{' '.join([command.name, *command.positions])}: {position(command, word.lower(), '')}"
+        return f"{' '.join([command.name, *command.positions])}: {position(command, word.lower(), class_name)}"
     return {"ID": "ID(id..), or RESET where no entry is set", "RACLIST": "RACLIST(class..), GLOBAL(class..) or GENERIC(class..)"}.get(word, "")
 
 
